@@ -1,4 +1,5 @@
 """Cases that are words, files and output."""
+import random
 import re
 import socket
 
@@ -48,6 +49,53 @@ def check_script(program, case, wanted):
 def check_log(program, case, wanted):
     run = stamp(program, case)
     expect(wanted, run.files["l"].hex() if "l" in run.files else run.told())
+
+
+def check_hub(program, case, wanted):
+    """The sessions of a hub's script lie in the files `l1`, `l2` and so on."""
+    script = case.replace(b" / ", b"\n")
+    run = program.run(["hub", "s", "--logs", "l"], {"s": script})
+    expect(wanted, run.told())
+    expect(wanted, program.run(["hub", "s"], {"s": script}).told())
+    if run.status != 0:
+        return expect({}, run.files)
+    sessions, _ = croquet.hubbed(script)
+    return expect({f"l{number}": session.encoded() for number, session in enumerate(sessions, 1)}, run.files)
+
+
+HUBS, HUB_SEED = 60, 62
+REQUESTS = ["join {view} {now}", "send {view} 1 1 {now} 00", "send {view} 2 2 {now} 0a", "tick {now}", "leave {view} 1 {now}", "pull 0 9"]
+
+
+def drawn_hub(seed):
+    """Requests to a few sessions, each of which replies as a script of its own requests alone."""
+    draw = random.Random(f"{HUB_SEED} {seed}")
+    names = draw.sample(["a", "b", "in", "#", "\u00e9", "n" * 255, "--logs", "1"], draw.randrange(1, 5))
+    lines = [(draw.choice(names), draw.choice(REQUESTS).format(view=draw.randrange(1, 3), now=draw.randrange(50)))
+             for _ in range(draw.randrange(1, 40))]
+
+    def check(program):
+        run = program.run(["hub", "s", "--logs", "l"], {"s": "".join(f"in {name} {line}\n" for name, line in lines).encode()})
+        alone = {name: program.run(["stamp", "s", "--log", "l"], {"s": "".join(f"{line}\n" for of, line in lines if of == name).encode()})
+                 for name in dict.fromkeys(name for name, _ in lines)}
+        replies = {name: iter(stamped.text.decode().splitlines()) for name, stamped in alone.items()}
+        expect([f"{name} {next(replies[name])}" for name, _ in lines], run.text.decode().splitlines())
+        expect({f"l{number}": stamped.files["l"] for number, stamped in enumerate(alone.values(), 1)}, run.files)
+
+    return Case(f"hub {HUB_SEED} {seed}", check)
+
+
+def check_full_hub(program):
+    """A hub has 256 sessions. Those that it has go on; one more is not made."""
+    names = [f"n{number}" for number in range(256)]
+    script = "".join(f"in {name} tick 1\n" for name in names) + "in x tick 0\nin n0 tick 2\nin y tick 0\nin n255 tick 3\n"
+    run = program.run(["hub", "s", "--logs", "l"], {"s": script.encode()})
+    expect([f"{name} ticked 1" for name in names] + ["x hub-full 256", "n0 ticked 2", "y hub-full 256", "n255 ticked 3"], run.text.decode().splitlines())
+    expect([f"l{number}" for number in range(1, 257)], sorted(run.files, key=lambda name: int(name[1:])))
+
+
+def drawn_hubs():
+    return [drawn_hub(seed) for seed in range(HUBS)] + [Case("256 sessions and one more", check_full_hub)]
 
 
 def check_program(program, case, wanted):
@@ -315,6 +363,7 @@ def command_cases():
 
 PARTS = {
     "scripts": lambda: each("scripts", "scripts", check_script),
+    "hubs": lambda: each("hubs", "hubs", check_hub) + drawn_hubs(),
     "logs": lambda: each("logs", "logs", check_log),
     "programs": lambda: each("programs", "programs", check_program),
     "worlds": lambda: each("worlds", "worlds", check_world)

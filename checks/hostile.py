@@ -1,14 +1,18 @@
-"""Programs at their bounds, scripts with control characters, and links that do all that nobody should do, beside views that get all that they are owed."""
+"""Programs at their bounds, scripts with control characters, and links that do all that nobody should do, beside views that get all that they are owed.
+At last, reflectors with little memory.
+"""
 import contextlib
+import socket
 import threading
 import time
 
 import websocket
-from case import expect, expect_that
-from reference import croquet
+from case import Wrong, expect, expect_that
+from journal_runs import Peer, ended_at_once, expect_kept, expect_stamps, journaled, place
+from reference import croquet, read_stored
 from reflector import ALIVE, EMPTY, hold_port, join_frame, leave_all, reflecting, send_frame, served_log, snap_frame
 from sessions import named_cases
-from websocket import BINARY, frame
+from websocket import BINARY, Ended, frame
 
 MASK = b"\x37\xfa\x21\x3d"
 GREATEST = b"\xff" * 4
@@ -245,9 +249,109 @@ def sixty_links_that_say_nothing(program):
             view.done(b"meanwhile")
 
 
+# ---------------------------------------------------------------- little memory
+
+LINKS = 32
+LIMIT_KIB = 40_960
+# The room for the bytes of any log, which a reflector takes before it listens.
+ROOM_KIB = 93_344_801 // 1_024 + 1
+# A thread takes 8 MiB for its stack, where the system is told nothing else.
+STACK_KIB = 1_024
+# How long a view that reads nothing waits for its handshake: a link that has no thread is served once all links after it are over.
+SECONDS = 5
+
+
+def limited(kib, stack_kib=None):
+    """A launcher: its program has so much memory for its data, stacks of threads among them, which have so much each."""
+    stack = f"ulimit -s {stack_kib}; " if stack_kib else ""
+    return ["/bin/sh", "-c", f"{stack}ulimit -d {kib}; exec \"$@\"", "sh"]
+
+
+def offer_the_longest_snapshot(reflector, number):
+    """As this view, whose link may be over by it."""
+    with contextlib.suppress(Wrong, Ended, OSError):
+        giver = joined(reflector, number)
+        giver.say(snap_frame(0, bytes(4_194_304)))
+        giver.until("snapped")
+
+
+def join_by_the_snapshot(reflector, number):
+    """As this view, which reads nothing of what it is sent."""
+    with contextlib.suppress(Wrong, Ended, OSError):
+        wire = reflector.connect(receive_buffer=4_096)
+        wire.socket.settimeout(SECONDS)
+        websocket.ask(wire)
+        wire.say(frame(BINARY, join_frame(reflector.ident, number, "fresh"), MASK))
+
+
+def crowd(reflector):
+    """All links but the first: one view offers a snapshot of 4 MiB, and the others join by it, all at once."""
+    offer_the_longest_snapshot(reflector, 2)
+    threads = [threading.Thread(target=join_by_the_snapshot, args=(reflector, number)) for number in range(3, LINKS + 1)]
+    for thread in threads:
+        thread.start()
+    for thread in threads:
+        thread.join()
+
+
+def run_of_a_crowd(at, kib, options, stack_kib):
+    """A reflector with so much memory. One view sends events all the time, beside the crowd. What it was told, and what came of the run."""
+    with journaled(at, LINKS, options, limited(kib, stack_kib)) as reflector:
+        peer = Peer(1)
+        peer.join(reflector)
+        sender = threading.Thread(target=peer.go_on)
+        sender.start()
+        crowd(reflector)
+        with contextlib.suppress(OSError):
+            peer.view.wire.socket.shutdown(socket.SHUT_RDWR)
+        sender.join()
+        return peer, reflector.end_anyhow()
+
+
+def goes_on_in(program, kib, stack_kib=None, has_log=False):
+    """Links end for want of memory, and the run does not. Its journal has all that was told, and its log is whole."""
+    with place(program) as at:
+        at.put("f", b"old")
+        peer, run = run_of_a_crowd(at, kib, ["--log", at.at("f")] if has_log else [], stack_kib)
+        ends = [line.split(" ")[2] for line in run.text.decode().split("\n") if line.startswith("connection ")]
+        expect((0, LINKS), (run.status, len(ends)))
+        expect_that(all(end in [*CLOSED, "memory"] for end in ends) and "memory" in ends, "links that end with `memory`, and no other fault", ends)
+        read = expect_kept(at, peer.view)
+        expect_stamps(read, peer)
+        log = read_stored(at.get("f")).log if has_log else read.entries
+        expect(["f", "j", "p"], at.names())
+        expect(read.entries, log)
+
+
+def thirty_two_links_in_40_mib(program):
+    """Its journal is its log."""
+    goes_on_in(program, LIMIT_KIB, STACK_KIB)
+
+
+def thirty_two_links_in_40_mib_with_stacks_of_8_mib(program):
+    """Four links have a thread. The others are served when all links after them are over."""
+    goes_on_in(program, LIMIT_KIB)
+
+
+def thirty_two_links_in_40_mib_beside_the_room_of_a_log(program):
+    goes_on_in(program, LIMIT_KIB + ROOM_KIB, STACK_KIB, has_log=True)
+
+
+def without_the_room_of_a_log_nothing_begins(program):
+    """It ends before it listens, and what was there stays."""
+    with place(program) as at:
+        at.put("f", b"old")
+        run = ended_at_once(at, ["--log", at.at("f")], limited(LIMIT_KIB))
+        expect((8, b"memory\n", b"old"), (run.status, run.text, at.get("f")))
+        expect(["f", "p"], at.names())
+
+
 FILES = [a_program_may_be_at_all_its_bounds, scripts_with_control_characters, view_scripts_with_control_characters]
 LINKED = [many_frames_of_a_peer_that_does_not_read, each_front_of_each_frame_is_refused, each_front_of_a_join_ends_its_link,
           each_front_of_the_bytes_of_a_frame_ends_its_link, each_tag_is_answered, counts_that_nothing_fits_are_refused, handshakes_of_64_kib,
           sixty_links_that_say_nothing]
 
-PARTS = {"bounds": lambda: named_cases(FILES), "hostile": lambda: named_cases(LINKED)}
+LIMITED = [thirty_two_links_in_40_mib, thirty_two_links_in_40_mib_with_stacks_of_8_mib, thirty_two_links_in_40_mib_beside_the_room_of_a_log,
+           without_the_room_of_a_log_nothing_begins]
+
+PARTS = {"bounds": lambda: named_cases(FILES), "hostile": lambda: named_cases(LINKED), "little-memory": lambda: named_cases(LIMITED)}

@@ -21,6 +21,7 @@ COMMANDS = {"stamp": (1, {"--from", "--log"}, set()), "check": (1, set(), set())
             "inspect": (5, {"--persisted"}, set()),
             "trace": (5, {"--persisted"}, set()),
             "votes": (1, set(), set()),
+            "hub": (1, {"--logs"}, set()),
             "join": (5, {"--persisted"}, set()),
             "reflect": (3, {"--persisted", "--from", "--connections", "--journal", "--log"}, {"--connections"}),
             "drill": (3, {"--log", "--snapshots"}, {"--log", "--snapshots"})}
@@ -269,6 +270,15 @@ def trace(plain, options):
 
 def votes(plain, options):
     for line in croquet.voted(read_entries(plain[0])[1]):
+        say(line)
+
+
+def hub(plain, options):
+    sessions, lines = croquet.hubbed(read_file(plain[0], "script"))
+    if "--logs" in options:
+        for number, session in enumerate(sessions, 1):
+            write_file(f"{options['--logs']}{number}", session.encoded())
+    for line in lines:
         say(line)
 
 

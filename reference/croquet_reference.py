@@ -43,6 +43,7 @@ MOST_VIEWS = 1_024
 MOST_PAYLOAD = 4_096
 MOST_SNAPSHOT = 4_194_304
 MOST_JSON = 1_048_576
+MOST_SESSIONS, MOST_SESSION_NAME = 256, 255
 MOST_ENTRIES = 2**20
 MOST_LOG_BYTES = 2**26
 TIME_LIMIT = 2**53
@@ -2139,6 +2140,31 @@ def stamped(source, stored=None):
     return session, [session.reply(request) for request in requests]
 
 
+def read_hub_script(source):
+    """The requests of a hub's script, each with the name of its session."""
+    return [read_named(line) for line in read_lines(source, SCRIPT_BYTES, "input script")]
+
+
+def read_named(line):
+    first, *rest = re.split(" +", line, maxsplit=2)
+    if first != "in" or len(rest) < 2 or len(rest[0].encode()) > MOST_SESSION_NAME:
+        raise Ended("input script", 3)
+    return rest[0], read_request(rest[1])
+
+
+def hubbed(source):
+    """The sessions after a hub's script, in the order in which they were made, and the printed lines."""
+    sessions, lines = {}, []
+    for name, request in read_hub_script(source):
+        ident = session_id(name.encode(), b"")
+        if ident not in sessions and len(sessions) == MOST_SESSIONS:
+            lines.append(f"{name} hub-full {MOST_SESSIONS}")
+            continue
+        session = sessions.setdefault(ident, Session())
+        lines.append(f"{name} {session.reply(request)}")
+    return list(sessions.values()), lines
+
+
 def read_opening(source):
     """The session with which a run begins."""
     if len(source) > LOG_FILE_BYTES:
@@ -3504,6 +3530,10 @@ def scripts_case(case):
     return " / ".join(stamped(lines_of(case))[1])
 
 
+def hubs_case(case):
+    return " / ".join(hubbed(lines_of(case))[1])
+
+
 def logs_case(case):
     return stamped(lines_of(case))[0].encoded().hex()
 
@@ -3724,13 +3754,13 @@ def joined_case(joining, run):
 
 
 KINDS = {"evaluate": evaluate_case, "run": run_case, "canonical": canonical_case,
-         "decode": decode_case, "payload": payload_case, "data": data_case, "scripts": scripts_case,
+         "decode": decode_case, "payload": payload_case, "data": data_case, "scripts": scripts_case, "hubs": hubs_case,
          "logs": logs_case, "stored": stored_case, "onward": onward_case,
          "programs": programs_case, "worlds": worlds_case, "saved": saved_case,
          "snapshots": snapshots_case, "resumed": resumed_case, "inspects": inspects_case,
          "traces": traces_case, "votes": votes_case, "reflectors": reflectors_case, "views": views_case,
          "lives": lives_case, "client": client_case, "server": server_case}
-WITH_STATUS = {"scripts", "logs", "onward", "programs", "worlds", "saved", "snapshots", "resumed",
+WITH_STATUS = {"scripts", "hubs", "logs", "onward", "programs", "worlds", "saved", "snapshots", "resumed",
                "inspects", "traces", "votes"}
 
 

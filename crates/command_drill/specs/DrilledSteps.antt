@@ -1,6 +1,6 @@
 -- What is put and printed of a drill.
-use Rattle.std.specs.Prelude.{ℕ, ℤ, ◌+◌, ◌*◌, List, [], ◌∷◌, ◌++◌, length, codes}
-use Rattle.std.specs.Fmt.{decimal, signed_decimal}
+use Rattle.std.specs.Prelude.{ℕ, ℤ, ◌*◌, List, [], ◌∷◌, ◌++◌, length, codes}
+use Rattle.std.specs.Fmt.{signed_decimal}
 use Rattle.text_lines.specs.Lines.{spell_numbers}
 use Rattle.session_log.specs.Stored.{stored_spelling}
 use Rattle.reflector_core.specs.PlainSession.{PlainSession}
@@ -8,7 +8,7 @@ use Rattle.reflector_core.specs.Stored.{stored_of}
 use Rattle.run_steps.specs.Steps.{Step}
 use Rattle.command_words.specs.declared.words.DrillRequest.{DrillRequest}
 use Rattle.command_outcome.specs.declared.outcome.Put.{Put}
-use Rattle.command_outcome.specs.Outcome.{steps_of}
+use Rattle.command_outcome.specs.Outcome.{numbered_puts, steps_of}
 
 -- what the total of its views adds to the line of a drill
 abbrev pub total_part : ℤ → List ℕ
@@ -24,12 +24,7 @@ drilled_line request entries total agree =
     ++ spell_numbers (codes " agree") (agree ∷ [])
     ++ codes "\n"
 
--- snapshots, each under a name that ends in the number of its view, for the views from this one on
-abbrev pub snapshot_puts : List ℕ → ℕ → List (List ℕ) → List Put
-snapshot_puts prefix view [] = []
-snapshot_puts prefix view (bytes ∷ snapshots) = record { name = prefix ++ decimal view; bytes = bytes } ∷ snapshot_puts prefix (view + 1) snapshots
-
--- of a drill the session is put as it is stored, and the snapshot of each view, and its line is printed
+-- of a drill the session is put as it is stored, and the snapshot of each view, from view 1 on, and its line is printed
 abbrev pub drilled_steps : DrillRequest → PlainSession → List (List ℕ) → ℤ → ℕ → List Step
 drilled_steps request session snapshots total agree =
-    steps_of (record { name = request.log; bytes = stored_spelling (stored_of session) } ∷ snapshot_puts request.snapshots 1 snapshots) (drilled_line request (length session.log) total agree)
+    steps_of (record { name = request.log; bytes = stored_spelling (stored_of session) } ∷ numbered_puts request.snapshots 1 snapshots) (drilled_line request (length session.log) total agree)

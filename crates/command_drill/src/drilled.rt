@@ -1,10 +1,9 @@
 //! What is put and printed of a drill: the command `drill`.
 ghost use Rattle.std.specs.Prelude.{◌≡◌, ◌++◌, IfOk, OnOk, string_bytes, length};
-ghost use Rattle.std.specs.Fmt.{decimal};
-ghost use Rattle.command_drill.specs.DrilledSteps.{drilled_line, total_part, drilled_steps, snapshot_puts};
-ghost use Rattle.command_outcome.specs.Outcome.{steps_of};
+ghost use Rattle.command_drill.specs.DrilledSteps.{drilled_line, total_part, drilled_steps};
+ghost use Rattle.command_outcome.specs.Outcome.{numbered_puts, steps_of};
 
-use command_outcome::{Outcome, Put, Puts, optional_put};
+use command_outcome::{Outcome, Puts, optional_put, put_numbered};
 use command_words::DrillRequest;
 use reflector_core::Session;
 use std::alloc::Global;
@@ -54,15 +53,6 @@ fn drilled_line(
     Ok(line)
 }
 
-/// The name under which a view's snapshot is put.
-fn snapshot_name(alloc: Global, prefix: &Text, view: u64) -> Result<Text, WantOfMemory>
-    ensures { IfOk result (λ name. name ≡ prefix.now ++ decimal view) }
-{
-    let mut name = String::from_str(alloc, prefix.as_str())?;
-    write!(name, "{view}")?;
-    Text::copy(alloc, name.as_str())
-}
-
 /// Puts the snapshots behind the log, which is the first file: so a view's number is the place of its file.
 fn put_snapshots(
     alloc: Global,
@@ -70,11 +60,10 @@ fn put_snapshots(
     prefix: &Text,
     snapshots: List<Blob>,
 ) -> Result<(), WantOfMemory>
-    ensures { OnOk result (files.new ≡ files.old ++ snapshot_puts prefix.now (length files.old) snapshots) }
+    ensures { OnOk result (files.new ≡ files.old ++ numbered_puts prefix.now (length files.old) snapshots) }
 {
     for bytes in snapshots.into_vec() {
-        let name = snapshot_name(alloc, prefix, files.len() as u64)?;
-        files.push(Put { name, bytes })?;
+        put_numbered(alloc, files, prefix, files.len() as u64, bytes)?;
     }
     Ok(())
 }

@@ -1,5 +1,6 @@
 -- What an outcome puts and prints.
-use Rattle.std.specs.Prelude.{ℕ, List, [], ◌∷◌, Option, Some, None}
+use Rattle.std.specs.Prelude.{ℕ, ◌+◌, List, [], ◌∷◌, ◌++◌, Option, Some, None}
+use Rattle.std.specs.Fmt.{decimal}
 use Rattle.run_steps.specs.Steps.{Step, Puts, Prints}
 use Rattle.command_outcome.specs.declared.outcome.Put.{Put}
 
@@ -12,3 +13,12 @@ steps_of (put ∷ puts) text = Puts put.name put.bytes ∷ steps_of puts text
 abbrev pub optional_put : Option (List ℕ) → List ℕ → List Put
 optional_put None bytes = []
 optional_put (Some name) bytes = record { name = name; bytes = bytes } ∷ []
+
+-- bytes under a name that ends in a number
+abbrev pub numbered_put : List ℕ → ℕ → List ℕ → Put
+numbered_put prefix number bytes = record { name = prefix ++ decimal number; bytes = bytes }
+
+-- each of these bytes, under a name that ends in its number, from this one on
+abbrev pub numbered_puts : List ℕ → ℕ → List (List ℕ) → List Put
+numbered_puts prefix number [] = []
+numbered_puts prefix number (bytes ∷ rest) = numbered_put prefix number bytes ∷ numbered_puts prefix (number + 1) rest

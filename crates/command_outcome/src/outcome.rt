@@ -1,8 +1,10 @@
 //! What comes of a command: what it puts and prints, or its one refusal.
-ghost use Rattle.std.specs.Prelude.{◌≡◌, IfOk};
-ghost use Rattle.command_outcome.specs.Outcome.{optional_put};
+ghost use Rattle.std.specs.Prelude.{◌≡◌, ◌++◌, ◌∷◌, [], IfOk, OnOk};
+ghost use Rattle.std.specs.Fmt.{decimal};
+ghost use Rattle.command_outcome.specs.Outcome.{numbered_put, optional_put};
 
 use std::alloc::Global;
+use std::fmt::Write;
 use tea_base::{Blob, List, Text, WantOfMemory};
 
 /// An input of a command.
@@ -64,4 +66,27 @@ pub fn optional_put(alloc: Global, name: Option<Text>, bytes: Blob) -> Result<Pu
         files.push(Put { name, bytes })?;
     }
     Ok(files)
+}
+
+/// A name that ends in a number.
+fn numbered_name(alloc: Global, prefix: &Text, number: u64) -> Result<Text, WantOfMemory>
+    ensures { IfOk result (λ name. name ≡ prefix.now ++ decimal number) }
+{
+    let mut name = String::from_str(alloc, prefix.as_str())?;
+    write!(name, "{number}")?;
+    Text::copy(alloc, name.as_str())
+}
+
+/// Adds bytes under a name that ends in this number.
+pub fn put_numbered(
+    alloc: Global,
+    files: &mut Puts,
+    prefix: &Text,
+    number: u64,
+    bytes: Blob,
+) -> Result<(), WantOfMemory>
+    ensures { OnOk result (files.new ≡ files.old ++ numbered_put prefix.now number bytes ∷ []) }
+{
+    let name = numbered_name(alloc, prefix, number)?;
+    files.push(Put { name, bytes })
 }

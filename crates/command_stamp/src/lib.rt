@@ -6,5 +6,5 @@ mod replies;
 mod script;
 
 pub use log::log_files;
-pub use replies::text;
-pub use script::read_script;
+pub use replies::{reply_line, text};
+pub use script::{read_request, read_script};

@@ -49,8 +49,8 @@ fn refusal_part(alloc: Global, refusal: Refusal) -> Result<String, WantOfMemory>
     }
 }
 
-/// The line of a reply.
-fn line(alloc: Global, reply: &Reply) -> Result<String, WantOfMemory>
+/// The line of a reply, with its line end.
+pub fn reply_line(alloc: Global, reply: &Reply) -> Result<String, WantOfMemory>
     ensures { IfOk result (λ line. string_bytes line ≡ reply_line reply.now) }
 {
     match reply {
@@ -99,7 +99,7 @@ pub fn text(alloc: Global, replies: &[Reply]) -> Result<String, WantOfMemory>
 {
     let mut text = String::new(alloc);
     for reply in replies {
-        text.push_str(line(alloc, reply)?.as_str())?;
+        text.push_str(reply_line(alloc, reply)?.as_str())?;
     }
     Ok(text)
 }

@@ -175,8 +175,8 @@ fn pull(fields: &[&str]) -> Option<Request>
     Some(Request::Pull { after, limit })
 }
 
-/// The request that a line's words spell.
-fn request(alloc: Global, words: &[&str]) -> Result<Option<Request>, WantOfMemory>
+/// The request that a line's words spell, or none where they are not in the grammar.
+pub fn read_request(alloc: Global, words: &[&str]) -> Result<Option<Request>, WantOfMemory>
     ensures { IfOk result (λ read. read ≡ request_of (map (λ word. word.now) words.now)) }
 {
     let [name, fields @ ..] = words else {
@@ -198,7 +198,7 @@ fn read_line(alloc: Global, line: &str) -> Result<Option<Request>, WantOfMemory>
     ensures { IfOk result (λ read. read ≡ request_of (words_of line.now)) }
 {
     let words = split_words(alloc, line)?;
-    request(alloc, &words)
+    read_request(alloc, &words)
 }
 
 /// Reads one line more, or says that it is not in the grammar.

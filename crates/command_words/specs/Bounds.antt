@@ -10,7 +10,7 @@ use Rattle.command_words.specs.declared.words.LiveRequest.{LiveRequest}
 use Rattle.command_words.specs.declared.words.ReflectRequest.{ReflectRequest}
 use Rattle.command_words.specs.declared.words.DrillRequest.{DrillRequest}
 use Rattle.command_words.specs.declared.words.Command.{Command}
-use Rattle.command_words.specs.declared.words.Command.TheVariants.{Stamp, Check, Replay, Inspect, Trace, Votes, Join, Live, Reflect, Drill}
+use Rattle.command_words.specs.declared.words.Command.TheVariants.{Stamp, Check, Replay, Inspect, Trace, Votes, Hub, Join, Live, Reflect, Drill}
 use Rattle.command_words.specs.CommandWords.{most_name}
 
 -- the words ask for a command that uses a net: join or reflect
@@ -63,6 +63,7 @@ IsWithinBounds (Replay request) = IsBounded request
 IsWithinBounds (Inspect request) = IsBoundedInspect request
 IsWithinBounds (Trace request) = IsBoundedTrace request
 IsWithinBounds (Votes log) = ⊤
+IsWithinBounds (Hub script logs) = ⊤
 IsWithinBounds (Join request) = IsBoundedJoin request
 IsWithinBounds (Live request) = IsBoundedLive request
 IsWithinBounds (Reflect request) = IsBoundedReflect request

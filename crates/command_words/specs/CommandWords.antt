@@ -11,7 +11,7 @@ use Rattle.command_words.specs.declared.words.LiveRequest.{LiveRequest}
 use Rattle.command_words.specs.declared.words.ReflectRequest.{ReflectRequest}
 use Rattle.command_words.specs.declared.words.DrillRequest.{DrillRequest}
 use Rattle.command_words.specs.declared.words.Command.{Command}
-use Rattle.command_words.specs.declared.words.Command.TheVariants.{Stamp, Check, Replay, Inspect, Trace, Votes, Join, Live, Reflect, Drill}
+use Rattle.command_words.specs.declared.words.Command.TheVariants.{Stamp, Check, Replay, Inspect, Trace, Votes, Hub, Join, Live, Reflect, Drill}
 use Rattle.command_words.specs.Parts.{Parts, all_parts, are_all_taken, behind_first, without_option, first_positional, has_dash, value_of}
 
 -- ---- what one word may be
@@ -179,8 +179,12 @@ drill_row = (
 abbrev pub votes_row : Row
 votes_row = (codes "votes", positional a_word (λ log. asks (Votes log)))
 
+-- `hub SCRIPT [--logs PREFIX]`
+abbrev pub hub_row : Row
+hub_row = (codes "hub", positional a_word (λ script. free (codes "--logs") (λ logs. asks (Hub script logs))))
+
 abbrev pub rows : List Row
-rows = stamp_row ∷ check_row ∷ replay_row ∷ inspect_row ∷ trace_row ∷ votes_row ∷ join_row ∷ reflect_row ∷ drill_row ∷ []
+rows = stamp_row ∷ check_row ∷ replay_row ∷ inspect_row ∷ trace_row ∷ votes_row ∷ hub_row ∷ join_row ∷ reflect_row ∷ drill_row ∷ []
 
 -- what the row of this name makes of the parts
 abbrev pub read_by : List Row → LineWord → Reading

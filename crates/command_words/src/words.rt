@@ -3,7 +3,7 @@ ghost use Rattle.std.specs.Prelude.{◌≡◌, ◌≤◌, ◌<◌, IfOk, IfSome,
 ghost use Rattle.std.specs.Option.{option_and_then};
 ghost use Rattle.tea_base.specs.Limits.{time_limit};
 ghost use Rattle.command_words.specs.Parts.{behind_first, first_positional};
-ghost use Rattle.command_words.specs.CommandWords.{a_name, a_number, a_time, asks, check_row, command_of, drill_row, inspect_options, inspect_row, join_row, join_ends, join_options, live_options, most_name, read_by, reflect_files, reflect_options, reflect_row, replay_options, replay_puts, replay_row, rows, stamp_row, reflect_ends, trace_options, trace_row, votes_row};
+ghost use Rattle.command_words.specs.CommandWords.{a_name, a_number, a_time, asks, check_row, command_of, drill_row, hub_row, inspect_options, inspect_row, join_row, join_ends, join_options, live_options, most_name, read_by, reflect_files, reflect_options, reflect_row, replay_options, replay_puts, replay_row, rows, stamp_row, reflect_ends, trace_options, trace_row, votes_row};
 ghost use Rattle.command_words.specs.Bounds.{IsBounded, IsBoundedInspect, IsBoundedJoin, IsBoundedLive, IsBoundedReflect, IsWithinBounds, IsBoundedTrace};
 
 use crate::parts::{Parts, is_word, read_parts};
@@ -40,6 +40,11 @@ pub enum Command {
     /// `votes LOG`
     Votes {
         log: Text,
+    },
+    /// `hub SCRIPT [--logs PREFIX]`
+    Hub {
+        script: Text,
+        logs: Option<Text>,
     },
     /// `join PROGRAM NAME ADDRESS VIEW SCRIPT [--persisted JSON]`
     Join(JoinRequest),
@@ -252,6 +257,16 @@ fn votes(mut parts: Parts) -> Option<Command>
 {
     let log = parts.positional()?;
     ask(Command::Votes { log }, &parts)
+}
+
+/// `hub SCRIPT [--logs PREFIX]`
+fn hub(mut parts: Parts) -> Option<Command>
+    ensures read { result ≡ hub_row.1 parts }
+    ensures bounds { IfSome result IsWithinBounds }
+{
+    let script = parts.positional()?;
+    let logs = parts.option("--logs");
+    ask(Command::Hub { script, logs }, &parts)
 }
 
 /// The last options of `replay`: `[--snapshot FILE] [--saved FILE]`
@@ -528,6 +543,8 @@ fn command_named(name: &Text, parts: Parts) -> Option<Command>
         trace(parts)
     } else if is_word(name, "votes") {
         votes(parts)
+    } else if is_word(name, "hub") {
+        hub(parts)
     } else if is_word(name, "join") {
         join(parts)
     } else if is_word(name, "reflect") {

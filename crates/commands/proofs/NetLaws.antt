@@ -19,7 +19,7 @@ use Rattle.command_words.specs.declared.words.JoinRequest.{JoinRequest}
 use Rattle.command_words.specs.declared.words.LiveRequest.{LiveRequest}
 use Rattle.command_words.specs.declared.words.ReflectRequest.{ReflectRequest}
 use Rattle.command_words.specs.declared.words.Command.{Command}
-use Rattle.command_words.specs.declared.words.Command.TheVariants.{Stamp, Check, Replay, Inspect, Trace, Votes, Join, Live, Reflect, Drill}
+use Rattle.command_words.specs.declared.words.Command.TheVariants.{Stamp, Check, Replay, Inspect, Trace, Votes, Hub, Join, Live, Reflect, Drill}
 use Rattle.command_words.specs.Address.{is_address}
 use Rattle.command_words.specs.Bounds.{UsesNet}
 use Rattle.view_script.specs.PlainLine.{PlainLine}
@@ -31,7 +31,9 @@ use Rattle.model_tree.specs.Bounds.{most_program_bytes}
 use Rattle.persist_json.specs.JsonOf.{most_json}
 use Rattle.tea_base.specs.Limits.{most_snapshot}
 use Rattle.commands.specs.Work.{AsksNoLive, NamesNoJournal, RunsOn}
-use Rattle.commands.specs.Verdict.{ByDrill, ByGoingOn, ByKeeping, ByLive, ByNetFault, ByReadFault, ByRefusal, ByReflecting, ByVisit, ByWant, ByWriteFault, Closing, Coming, Comes, Fine, Free, Only, OfFile, OfFounded, OfGiven, OfInspect, OfInspectedLog, OfJson, OfKeyframes, OfLog, OfOwn, OfPersisted, OfProgram, OfQueries, OfRecorded, OfRight, OfScript, OfSnapshot, OfTimeLine, OfTree, OfWords, Starts, Verdict, ask_file, at_once, count_verdict, fine, founded, inspect_verdict, keeps_few, stamp_verdict, most_queries, most_script, most_log, OfOpening, OfReflected, PlainSource, first_source, names_no_other, session_id_of, OfTrace, OfTraced, OfTracedLog, trace_verdict, votes_verdict, OfJoin, OfJournal, OfLive, OfLiveBegun, OfReflect, OfServed, OfUnkept, OfView, OfViewScript, PlainKeeping, PlainLive, PlainReflection, PlainVisit, keeping_of, live_of, reflection_of, visit_to}
+use Rattle.command_hub.specs.declared.script.HubLine.{HubLine}
+use Rattle.command_hub.specs.HubScript.{hub_script_of}
+use Rattle.commands.specs.Verdict.{ByDrill, ByGoingOn, ByKeeping, ByLive, ByNetFault, ByReadFault, ByReflecting, ByRefusal, ByVisit, ByWant, ByWriteFault, Closing, Comes, Coming, Fine, Free, OfFile, OfFounded, OfGiven, OfHubScript, OfInspect, OfInspectedLog, OfJoin, OfJournal, OfJson, OfKeyframes, OfLive, OfLiveBegun, OfLog, OfOpening, OfOwn, OfPersisted, OfProgram, OfQueries, OfRecorded, OfReflect, OfReflected, OfRight, OfScript, OfServed, OfSnapshot, OfTimeLine, OfTrace, OfTraced, OfTracedLog, OfTree, OfUnkept, OfView, OfViewScript, OfWords, Only, PlainKeeping, PlainLive, PlainReflection, PlainSource, PlainVisit, Starts, Verdict, ask_file, at_once, count_verdict, fine, first_source, founded, hub_verdict, inspect_verdict, keeping_of, keeps_few, live_of, most_log, most_queries, most_script, names_no_other, reflection_of, session_id_of, stamp_verdict, trace_verdict, visit_to, votes_verdict}
 
 map_right : {A B C : Type 0} → A ⊎ B → (B → C) → A ⊎ C
 map_right (inl a) f = inl a
@@ -91,6 +93,10 @@ module _ (IsBad : Closing → Type 0) (not_fine : ¬ IsBad Fine) (not_refused : 
   script_never from log None = refused_never (refusal.Input input.Script)
   script_never from log (Some requests) =
       opening_never from (λ source. Only (stamp_verdict (session_of source.stored) log requests)) (λ source. fine_never (stamp_verdict (session_of source.stored) log requests).steps)
+
+  hub_script_never : (logs : Option (List ℕ)) (lines : Option (List HubLine)) → Never (OfHubScript logs lines)
+  hub_script_never logs None = refused_never (refusal.Input input.Script)
+  hub_script_never logs (Some lines) = fine_never (hub_verdict logs lines).steps
 
   program_never : (next : ProgramTree → Coming) (bytes : List ℕ) → ((tree : ProgramTree) → Never (next tree)) → Never (OfProgram next bytes)
   program_never next bytes each verdict (inl (tree, sound, comes)) on = each tree verdict comes on
@@ -239,6 +245,8 @@ module _ (IsBad : Closing → Type 0) (not_fine : ¬ IsBad Fine) (not_refused : 
       (λ bytes. program_never (OfTrace request bytes) bytes (trace_never request bytes))
   words_never (Some (Votes log)) other =
       log_file_never log (λ source. Only (votes_verdict source.stored.log)) (λ source. fine_never (votes_verdict source.stored.log).steps)
+  words_never (Some (Hub script logs)) other =
+      file_never input.Script (ask_file script most_script) (λ bytes. OfHubScript logs (hub_script_of bytes)) (λ bytes. hub_script_never logs (hub_script_of bytes))
   words_never (Some (Join request)) well =
       file_never input.Program (ask_file request.program most_program_bytes) (λ bytes. OfProgram (OfJoin request bytes) bytes)
       (λ bytes. program_never (OfJoin request bytes) bytes (join_never well request bytes))
@@ -271,6 +279,7 @@ goes_on_never (Some (Replay request)) other = tt
 goes_on_never (Some (Inspect request)) other = tt
 goes_on_never (Some (Trace request)) other = tt
 goes_on_never (Some (Votes log)) other = tt
+goes_on_never (Some (Hub script logs)) other = tt
 goes_on_never (Some (Join request)) other = absurd (other tt)
 goes_on_never (Some (Live request)) other = absurd (other tt)
 goes_on_never (Some (Reflect request)) other = absurd (other tt)
@@ -295,6 +304,7 @@ keeps_none (Some (Replay request)) none = tt
 keeps_none (Some (Inspect request)) none = tt
 keeps_none (Some (Trace request)) none = tt
 keeps_none (Some (Votes log)) none = tt
+keeps_none (Some (Hub script logs)) none = tt
 keeps_none (Some (Join request)) none = λ visit on. absurd on
 keeps_none (Some (Live request)) none = λ live on. absurd on
 keeps_none (Some (Reflect request)) none = (λ reflection on. absurd on, inl none)
@@ -319,6 +329,7 @@ lives_not (Some (Replay request)) none = tt
 lives_not (Some (Inspect request)) none = tt
 lives_not (Some (Trace request)) none = tt
 lives_not (Some (Votes log)) none = tt
+lives_not (Some (Hub script logs)) none = tt
 lives_not (Some (Join request)) none = λ visit on. absurd on
 lives_not (Some (Live request)) none = absurd none
 lives_not (Some (Reflect request)) none = (λ reflection on. absurd on, inr (λ keeping on. absurd on))
@@ -362,6 +373,7 @@ never_on_net (Some (Replay request)) other verdict comes on = never_goes_on (Som
 never_on_net (Some (Inspect request)) other verdict comes on = never_goes_on (Some (Inspect request)) (λ runs. absurd runs) verdict comes (on_net_goes_on verdict.closing on)
 never_on_net (Some (Trace request)) other verdict comes on = never_goes_on (Some (Trace request)) (λ runs. absurd runs) verdict comes (on_net_goes_on verdict.closing on)
 never_on_net (Some (Votes log)) other verdict comes on = never_goes_on (Some (Votes log)) (λ runs. absurd runs) verdict comes (on_net_goes_on verdict.closing on)
+never_on_net (Some (Hub script logs)) other verdict comes on = never_goes_on (Some (Hub script logs)) (λ runs. absurd runs) verdict comes (on_net_goes_on verdict.closing on)
 never_on_net (Some (Join request)) other verdict comes on = absurd (other tt)
 never_on_net (Some (Live request)) other verdict comes on = absurd (other tt)
 never_on_net (Some (Reflect request)) other verdict comes on = absurd (other tt)

@@ -32,7 +32,7 @@ use Rattle.command_words.specs.declared.words.JoinRequest.{JoinRequest}
 use Rattle.command_words.specs.declared.words.LiveRequest.{LiveRequest}
 use Rattle.command_words.specs.declared.words.ReflectRequest.{ReflectRequest}
 use Rattle.command_words.specs.declared.words.Command.{Command}
-use Rattle.command_words.specs.declared.words.Command.TheVariants.{Stamp, Check, Replay, Inspect, Trace, Votes, Join, Live, Reflect, Drill}
+use Rattle.command_words.specs.declared.words.Command.TheVariants.{Stamp, Check, Replay, Inspect, Trace, Votes, Hub, Join, Live, Reflect, Drill}
 use Rattle.command_outcome.specs.ProgramText.{syntax_line}
 use Rattle.command_stamp.specs.Script.{script_of}
 use Rattle.command_inspect.specs.declared.query.Query.{Query}
@@ -42,7 +42,9 @@ use Rattle.model_tree.specs.Bounds.{most_program_bytes}
 use Rattle.tea_base.specs.Limits.{most_snapshot}
 use Rattle.commands.proofs.LogLaws.{same_source}
 use Rattle.commands.specs.Laws.{AreAlike, AreDoneAlike, IsOneVerdict, IsFunction}
-use Rattle.commands.specs.Verdict.{Closing, ByDrill, ByKeeping, ByLive, ByRefusal, ByReflecting, ByVisit, ByWant, Verdict, Coming, Free, OfFile, OfFounded, OfGiven, OfInspect, OfInspectedLog, OfJoin, OfJournal, OfJson, OfKeyframes, OfLive, OfLiveBegun, OfLog, OfOwn, OfPersisted, OfProgram, OfQueries, OfRecorded, OfReflect, OfReflected, OfRight, PlainSource, first_source, names_no_other, OfScript, OfSnapshot, OfTimeLine, OfTree, OfView, OfViewScript, OfWords, Only, Starts, before, ask_file, at_once, count_verdict, founded, inspect_verdict, keeps_few, live_of, reflection_of, resumed_verdict, stamp_verdict, visit_to, most_queries, most_script, most_log, OfOpening, OfServed, OfUnkept, keeping_of, session_id_of, OfTrace, OfTraced, OfTracedLog, trace_verdict, votes_verdict}
+use Rattle.command_hub.specs.declared.script.HubLine.{HubLine}
+use Rattle.command_hub.specs.HubScript.{hub_script_of}
+use Rattle.commands.specs.Verdict.{ByDrill, ByKeeping, ByLive, ByReflecting, ByRefusal, ByVisit, ByWant, Closing, Coming, Free, OfFile, OfFounded, OfGiven, OfHubScript, OfInspect, OfInspectedLog, OfJoin, OfJournal, OfJson, OfKeyframes, OfLive, OfLiveBegun, OfLog, OfOpening, OfOwn, OfPersisted, OfProgram, OfQueries, OfRecorded, OfReflect, OfReflected, OfRight, OfScript, OfServed, OfSnapshot, OfTimeLine, OfTrace, OfTraced, OfTracedLog, OfTree, OfUnkept, OfView, OfViewScript, OfWords, Only, PlainSource, Starts, Verdict, ask_file, at_once, before, count_verdict, first_source, founded, hub_verdict, inspect_verdict, keeping_of, keeps_few, live_of, most_log, most_queries, most_script, names_no_other, reflection_of, resumed_verdict, session_id_of, stamp_verdict, trace_verdict, visit_to, votes_verdict}
 
 -- what `model_lang::one_reading` says
 abbrev pub IsOneReading : Type 0
@@ -125,6 +127,12 @@ one_own source id next one = one_right input.Journal (names_no_other source.name
 one_script : (from log : Option (List ℕ)) (script : Option (List Request)) → IsOneVerdict (OfScript from log script)
 one_script from log None = one_only (at_once (ByRefusal (refusal.Input input.Script)))
 one_script from log (Some requests) = one_opening from (λ source. Only (stamp_verdict (session_of source.stored) log requests)) (λ source. one_only (stamp_verdict (session_of source.stored) log requests))
+
+-- ---- hub
+
+one_hub_script : (logs : Option (List ℕ)) (lines : Option (List HubLine)) → IsOneVerdict (OfHubScript logs lines)
+one_hub_script logs None = one_only (at_once (ByRefusal (refusal.Input input.Script)))
+one_hub_script logs (Some lines) = one_only (hub_verdict logs lines)
 
 -- ---- programs
 
@@ -328,6 +336,8 @@ one_words one (Some (Trace request)) =
     (λ bytes. one_program one (OfTrace request bytes) (one_trace request bytes) bytes)
 one_words one (Some (Votes log)) =
     one_log_file log (λ source. Only (votes_verdict source.stored.log)) (λ source. one_only (votes_verdict source.stored.log))
+one_words one (Some (Hub script logs)) =
+    one_file input.Script (ask_file script most_script) (λ bytes. OfHubScript logs (hub_script_of bytes)) (λ bytes. one_hub_script logs (hub_script_of bytes))
 one_words one (Some (Join request)) =
     one_file input.Program (ask_file request.program most_program_bytes) (λ bytes. OfProgram (OfJoin request bytes) bytes)
     (λ bytes. one_program one (OfJoin request bytes) (one_join request bytes) bytes)

@@ -26,7 +26,7 @@ use Rattle.command_words.specs.declared.words.LiveRequest.{LiveRequest}
 use Rattle.command_words.specs.declared.words.ReflectRequest.{ReflectRequest}
 use Rattle.command_words.specs.declared.words.DrillRequest.{DrillRequest}
 use Rattle.command_words.specs.declared.words.Command.{Command}
-use Rattle.command_words.specs.declared.words.Command.TheVariants.{Stamp, Check, Replay, Inspect, Trace, Votes, Join, Live, Reflect, Drill}
+use Rattle.command_words.specs.declared.words.Command.TheVariants.{Stamp, Check, Replay, Inspect, Trace, Votes, Hub, Join, Live, Reflect, Drill}
 use Rattle.command_outcome.specs.ProgramText.{check_line, counts_line, syntax_line, too_large_line}
 use Rattle.command_stamp.specs.Script.{script_of}
 use Rattle.command_votes.specs.VotesText.{votes_text}
@@ -40,7 +40,10 @@ use Rattle.model_tree.specs.Bounds.{most_program_bytes}
 use Rattle.persist_json.specs.JsonOf.{most_json}
 use Rattle.tea_base.specs.Limits.{most_snapshot}
 use Rattle.commands.specs.Laws.{AreGiven, IsOnlyWant, SomeVerdictComes}
-use Rattle.commands.specs.Verdict.{PlainKeeping, PlainLive, PlainVisit, Fine, ByDrill, ByKeeping, ByLive, ByRefusal, ByReflecting, ByVisit, ByWant, Coming, OfCommand, OfFile, OfFounded, OfGiven, OfInspect, OfInspectedLog, OfJoin, OfJournal, OfJson, OfKeyframes, OfLive, OfLiveBegun, OfLog, OfOwn, OfPersisted, OfProgram, OfQueries, OfRecorded, OfReflect, OfReflected, OfRight, PlainSource, first_source, names_no_other, trace_verdict, OfScript, OfSnapshot, OfTimeLine, OfTree, OfView, OfViewScript, Only, Starts, ask_file, at_once, before, count_verdict, fine, founded, keeps_few, live_of, reflection_of, stamp_verdict, visit_to, most_queries, most_script, most_log, PlainReflection, OfOpening, OfServed, OfUnkept, keeping_of, session_id_of, OfTrace, OfTraced, OfTracedLog, votes_verdict}
+use Rattle.command_hub.specs.declared.script.HubLine.{HubLine}
+use Rattle.command_hub.specs.HubScript.{hub_script_of}
+use Rattle.command_hub.specs.HubRun.{hub_puts, hub_run}
+use Rattle.commands.specs.Verdict.{ByDrill, ByKeeping, ByLive, ByReflecting, ByRefusal, ByVisit, ByWant, Coming, Fine, OfCommand, OfFile, OfFounded, OfGiven, OfHubScript, OfInspect, OfInspectedLog, OfJoin, OfJournal, OfJson, OfKeyframes, OfLive, OfLiveBegun, OfLog, OfOpening, OfOwn, OfPersisted, OfProgram, OfQueries, OfRecorded, OfReflect, OfReflected, OfRight, OfScript, OfServed, OfSnapshot, OfTimeLine, OfTrace, OfTraced, OfTracedLog, OfTree, OfUnkept, OfView, OfViewScript, Only, PlainKeeping, PlainLive, PlainReflection, PlainSource, PlainVisit, Starts, ask_file, at_once, before, count_verdict, fine, first_source, founded, keeping_of, keeps_few, live_of, most_log, most_queries, most_script, names_no_other, reflection_of, session_id_of, stamp_verdict, trace_verdict, visit_to, votes_verdict}
 
 abbrev pub Told : Type 0
 Told = Ask → Option (List ℕ)
@@ -113,6 +116,12 @@ script_not_want : (told : Told) (from log : Option (List ℕ)) (requests : Optio
 script_not_want told from log None = refused_not_want told (OfScript from log None) (refusal.Input input.Script) refl
 script_not_want told from log (Some requests) =
     opening_not_want told from (λ source. Only (stamp_verdict (session_of source.stored) log requests)) (λ source. fine_not_want told (Only (stamp_verdict (session_of source.stored) log requests)) _ _ refl)
+
+-- ---- hub
+
+hub_script_not_want : (told : Told) (logs : Option (List ℕ)) (lines : Option (List HubLine)) → ¬ IsOnlyWant told (OfHubScript logs lines)
+hub_script_not_want told logs None = refused_not_want told (OfHubScript logs None) (refusal.Input input.Script) refl
+hub_script_not_want told logs (Some lines) = let run = hub_run lines in fine_not_want told (OfHubScript logs (Some lines)) (hub_puts logs run.hub) run.text refl
 
 -- ---- programs
 
@@ -284,6 +293,8 @@ command_not_want some told (Trace request) =
     (λ bytes. program_not_want some told (OfTrace request bytes) bytes (trace_not_want told request bytes))
 command_not_want some told (Votes log) =
     log_file_not_want told log (λ source. Only (votes_verdict source.stored.log)) (λ source. fine_not_want told (Only (votes_verdict source.stored.log)) [] (votes_text source.stored.log) refl)
+command_not_want some told (Hub script logs) =
+    file_not_want told input.Script (ask_file script most_script) (λ bytes. OfHubScript logs (hub_script_of bytes)) (λ bytes. hub_script_not_want told logs (hub_script_of bytes))
 command_not_want some told (Join request) =
     file_not_want told input.Program (ask_file request.program most_program_bytes) (λ bytes. OfProgram (OfJoin request bytes) bytes)
     (λ bytes. program_not_want some told (OfJoin request bytes) bytes (join_not_want told request bytes))

@@ -39,6 +39,7 @@ some_left (waiting.Trace (trace_wait.Program request)) = omega arith
 some_left (waiting.Trace (trace_wait.Log wait)) = omega arith
 some_left (waiting.Trace (trace_wait.Value wait)) = omega arith
 some_left (waiting.Votes log) = omega arith
+some_left (waiting.Hub script logs) = omega arith
 some_left (waiting.Join (join_wait.Program request)) = omega arith
 some_left (waiting.Join (join_wait.Script wait)) = omega arith
 some_left (waiting.Join (join_wait.Value wait)) = omega arith

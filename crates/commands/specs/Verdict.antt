@@ -39,7 +39,7 @@ use Rattle.command_words.specs.declared.words.LiveRequest.{LiveRequest}
 use Rattle.command_words.specs.declared.words.ReflectRequest.{ReflectRequest}
 use Rattle.command_words.specs.declared.words.DrillRequest.{DrillRequest}
 use Rattle.command_words.specs.declared.words.Command.{Command}
-use Rattle.command_words.specs.declared.words.Command.TheVariants.{Stamp, Check, Replay, Inspect, Trace, Votes, Join, Live, Reflect, Drill}
+use Rattle.command_words.specs.declared.words.Command.TheVariants.{Stamp, Check, Replay, Inspect, Trace, Votes, Hub, Join, Live, Reflect, Drill}
 use Rattle.command_words.specs.Address.{is_address}
 use Rattle.command_stamp.specs.Script.{script_of}
 use Rattle.command_outcome.specs.Outcome.{optional_put, steps_of}
@@ -54,6 +54,9 @@ use Rattle.command_inspect.specs.InspectText.{inspect_text}
 use Rattle.command_inspect.specs.Queries.{queries_of}
 use Rattle.command_trace.specs.TraceText.{trace_text}
 use Rattle.command_votes.specs.VotesText.{votes_text}
+use Rattle.command_hub.specs.declared.script.HubLine.{HubLine}
+use Rattle.command_hub.specs.HubScript.{hub_script_of}
+use Rattle.command_hub.specs.HubRun.{hub_steps}
 use Rattle.command_outcome.specs.declared.outcome.Put.{Put}
 use Rattle.command_reflect.specs.ReflectedSteps.{reflected_bytes, reflected_text}
 use Rattle.command_drill.specs.DrilledSteps.{drilled_steps}
@@ -373,6 +376,17 @@ OfTrace request text tree = OfFile input.Log (ask_file request.log most_log) (Of
 abbrev pub votes_verdict : List Entry → Verdict
 votes_verdict log = fine (steps_of [] (votes_text log))
 
+-- ---- hub
+
+-- the sessions of the lines are put, and their replies are printed
+abbrev pub hub_verdict : Option (List ℕ) → List HubLine → Verdict
+hub_verdict logs lines = fine (hub_steps logs lines)
+
+-- what comes of a hub's script, or of none
+abbrev pub OfHubScript : Option (List ℕ) → Option (List HubLine) → Coming
+OfHubScript logs None = Only (at_once (ByRefusal (refusal.Input input.Script)))
+OfHubScript logs (Some lines) = Only (hub_verdict logs lines)
+
 -- ---- join
 
 abbrev pub visit_to : JoinRequest → List ℕ → List PlainLine → Founding → PlainVisit
@@ -478,6 +492,7 @@ OfCommand (Trace request) =
     OfFile input.Program (ask_file request.program most_program_bytes) (λ bytes. OfProgram (OfTrace request bytes) bytes)
 -- any journal may be counted, whichever session it is of
 OfCommand (Votes log) = OfFile input.Log (ask_file log most_log) (OfLog (λ source. Only (votes_verdict source.stored.log)))
+OfCommand (Hub script logs) = OfFile input.Script (ask_file script most_script) (λ bytes. OfHubScript logs (hub_script_of bytes))
 OfCommand (Join request) =
     OfFile input.Program (ask_file request.program most_program_bytes) (λ bytes. OfProgram (OfJoin request bytes) bytes)
 OfCommand (Live request) =

@@ -29,6 +29,7 @@ use Rattle.commands.specs.declared.visit.JoinWait.TheVariants as join_wait
 use Rattle.commands.specs.declared.live.LiveWait.TheVariants as live_wait
 use Rattle.commands.specs.declared.reflection.ReflectWait.TheVariants as reflect_wait
 use Rattle.command_stamp.specs.Script.{script_of}
+use Rattle.command_hub.specs.HubScript.{hub_script_of}
 use Rattle.command_inspect.specs.Queries.{queries_of}
 use Rattle.command_replay.specs.declared.recording.Recording.{Recording}
 use Rattle.time_line.specs.Keyframes.{LineView}
@@ -41,7 +42,7 @@ use Rattle.view_script.specs.PlainLine.{plain_lines}
 use Rattle.command_words.specs.Bounds.{AreConnections, IsBounded, IsBoundedDrill, IsBoundedInspect, IsBoundedJoin, IsBoundedLive, IsBoundedReflect, IsBoundedTrace}
 use Rattle.command_outcome.specs.Outcome.{steps_of}
 use Rattle.commands.specs.Keeping.{OfFoundingLog}
-use Rattle.commands.specs.Verdict.{Verdict, PlainKeeping, PlainLive, PlainReflection, PlainVisit, ByDrill, ByKeeping, ByLive, ByRefusal, ByReflecting, ByVisit, ByWant, Coming, Only, OfFile, OfFounded, OfInspect, OfJoin, OfJson, OfLive, OfTimeLine, OfInspectedLog, OfProgram, OfQueries, OfLog, OfRecorded, OfReflect, OfReflected, OfScript, OfServed, OfSnapshot, OfTree, PlainSource, OfViewScript, ask_file, at_once, count_verdict, fine, founded, keeps_few, live_of, most_log, most_queries, most_script, session_id_of, stamp_verdict, visit_to, OfTrace, OfTraced, OfTracedLog, votes_verdict}
+use Rattle.commands.specs.Verdict.{Verdict, PlainKeeping, PlainLive, PlainReflection, PlainVisit, ByDrill, ByKeeping, ByLive, ByRefusal, ByReflecting, ByVisit, ByWant, Coming, Only, OfFile, OfFounded, OfHubScript, OfInspect, OfJoin, OfJson, OfLive, OfTimeLine, OfInspectedLog, OfProgram, OfQueries, OfLog, OfRecorded, OfReflect, OfReflected, OfScript, OfServed, OfSnapshot, OfTree, PlainSource, OfViewScript, ask_file, at_once, count_verdict, fine, founded, keeps_few, live_of, most_log, most_queries, most_script, session_id_of, stamp_verdict, visit_to, OfTrace, OfTraced, OfTracedLog, votes_verdict}
 
 -- ---- a command that waits for a file
 
@@ -62,6 +63,7 @@ input_of (waiting.Trace (trace_wait.Program request)) = input.Program
 input_of (waiting.Trace (trace_wait.Log wait)) = input.Log
 input_of (waiting.Trace (trace_wait.Value wait)) = input.Persisted
 input_of (waiting.Votes log) = input.Log
+input_of (waiting.Hub script logs) = input.Script
 input_of (waiting.Join (join_wait.Program request)) = input.Program
 input_of (waiting.Join (join_wait.Script wait)) = input.Script
 input_of (waiting.Join (join_wait.Value wait)) = input.Persisted
@@ -89,6 +91,7 @@ file_of (waiting.Trace (trace_wait.Program request)) = request.program
 file_of (waiting.Trace (trace_wait.Log wait)) = wait.request.log
 file_of (waiting.Trace (trace_wait.Value wait)) = wait.persisted
 file_of (waiting.Votes log) = log
+file_of (waiting.Hub script logs) = script
 file_of (waiting.Join (join_wait.Program request)) = request.program
 file_of (waiting.Join (join_wait.Script wait)) = wait.request.script
 file_of (waiting.Join (join_wait.Value wait)) = wait.persisted
@@ -179,6 +182,7 @@ next_of (waiting.Trace (trace_wait.Value wait)) bytes =
     let read = wait.read in
     OfJson (λ v. OfTraced read.request read.text (plain_source read.source) (founded (checked_tree read.program) v)) bytes
 next_of (waiting.Votes log) bytes = OfLog (λ source. Only (votes_verdict source.stored.log)) bytes
+next_of (waiting.Hub script logs) bytes = OfHubScript logs (hub_script_of bytes)
 next_of (waiting.Join (join_wait.Program request)) bytes = OfProgram (OfJoin request bytes) bytes
 next_of (waiting.Join (join_wait.Script wait)) bytes = OfViewScript wait.request wait.text (checked_tree wait.program) (view_script_of bytes)
 next_of (waiting.Join (join_wait.Value wait)) bytes =
@@ -213,6 +217,7 @@ files_left (waiting.Trace (trace_wait.Program request)) = 3
 files_left (waiting.Trace (trace_wait.Log wait)) = 2
 files_left (waiting.Trace (trace_wait.Value wait)) = 1
 files_left (waiting.Votes log) = 1
+files_left (waiting.Hub script logs) = 1
 files_left (waiting.Join (join_wait.Program request)) = 3
 files_left (waiting.Join (join_wait.Script wait)) = 2
 files_left (waiting.Join (join_wait.Value wait)) = 1
@@ -239,6 +244,7 @@ IsBoundedWait (waiting.Trace (trace_wait.Program request)) = IsBoundedTrace requ
 IsBoundedWait (waiting.Trace (trace_wait.Log wait)) = IsBoundedTrace wait.request
 IsBoundedWait (waiting.Trace (trace_wait.Value wait)) = IsBoundedTrace wait.read.request
 IsBoundedWait (waiting.Votes log) = ⊤
+IsBoundedWait (waiting.Hub script logs) = ⊤
 IsBoundedWait (waiting.Join (join_wait.Program request)) = IsBoundedJoin request
 IsBoundedWait (waiting.Join (join_wait.Script wait)) = IsBoundedJoin wait.request
 IsBoundedWait (waiting.Join (join_wait.Value wait)) = IsBoundedJoin wait.read.request

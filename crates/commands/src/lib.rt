@@ -5,10 +5,11 @@
 //! until it is refused, or gives what it puts and prints, or goes on as a view's run, a live view's, a reflector's, or a drill.
 //!
 //! The words of commands stand in `command_words`, what comes of them in `command_outcome`, and what each of them gives in a crate of its own:
-//! `command_stamp`, `command_replay`, `command_inspect`, `command_trace`, `command_votes`, `command_reflect` and `command_drill`.
+//! `command_stamp`, `command_replay`, `command_inspect`, `command_trace`, `command_votes`, `command_hub`, `command_reflect` and `command_drill`.
 #![tactic(auto)]
 
 mod check;
+mod hub;
 mod inspection;
 mod laws;
 mod live;

@@ -9,6 +9,7 @@ ghost use Rattle.command_outcome.specs.declared.outcome.CommandRefusal.TheVarian
 ghost use Rattle.commands.specs.declared.work.Next.TheVariants as next;
 
 use crate::check::check;
+use crate::hub::hub;
 use crate::inspection::InspectWait;
 use crate::live::{LiveStart, LiveWait};
 use crate::recording::ReplayWait;
@@ -36,6 +37,8 @@ pub enum Waiting {
     Trace(TraceWait),
     /// A count of votes that has read nothing yet.
     Votes { log: Text },
+    /// A hub that has read nothing yet.
+    Hub { script: Text, logs: Option<Text> },
     Join(JoinWait),
     Live(LiveWait),
     Reflect(ReflectWait),
@@ -94,6 +97,7 @@ impl Next {
                 Next::Reads(Waiting::Trace(TraceWait::Program(request)))
             }
             Some(Command::Votes { log }) => Next::Reads(Waiting::Votes { log }),
+            Some(Command::Hub { script, logs }) => Next::Reads(Waiting::Hub { script, logs }),
             Some(Command::Join(request)) => Next::Reads(Waiting::Join(JoinWait::Program(request))),
             Some(Command::Live(request)) => Next::Reads(Waiting::Live(LiveWait::Program(request))),
             Some(Command::Reflect(request)) => {
@@ -117,6 +121,7 @@ impl Waiting {
             Waiting::Inspect(wait) => wait.name(),
             Waiting::Trace(wait) => wait.name(),
             Waiting::Votes { log } => log,
+            Waiting::Hub { script, .. } => script,
             Waiting::Join(wait) => wait.name(),
             Waiting::Live(wait) => wait.name(),
             Waiting::Reflect(wait) => wait.name(),
@@ -134,6 +139,7 @@ impl Waiting {
             Waiting::Inspect(wait) => wait.input(),
             Waiting::Trace(wait) => wait.input(),
             Waiting::Votes { .. } => Input::Log,
+            Waiting::Hub { .. } => Input::Script,
             Waiting::Join(wait) => wait.input(),
             Waiting::Live(wait) => wait.input(),
             Waiting::Reflect(wait) => wait.input(),
@@ -172,6 +178,10 @@ impl Waiting {
             Waiting::Inspect(wait) => wait.take(alloc, bytes),
             Waiting::Trace(wait) => wait.take(alloc, bytes),
             Waiting::Votes { log: _log } => votes(alloc, bytes.bytes()),
+            Waiting::Hub {
+                script: _script,
+                logs,
+            } => hub(alloc, logs, bytes.bytes()),
             Waiting::Join(wait) => wait.take(alloc, bytes),
             Waiting::Live(wait) => wait.take(alloc, bytes),
             Waiting::Reflect(wait) => wait.take(alloc, bytes),

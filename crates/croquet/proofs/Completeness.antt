@@ -5,7 +5,7 @@ use Rattle.tea_io.specs.Told.{Rose}
 use Rattle.run_steps.specs.Steps.{Step, Puts, Prints}
 use Rattle.run_steps.specs.Outside.{Acts, Cut, FilesTell, LinksTell, NetTells, Outside, OutputTells, WantedMemory, outside_tells}
 use Rattle.command_words.specs.declared.words.Command.{Command}
-use Rattle.command_words.specs.declared.words.Command.TheVariants.{Stamp, Check, Replay, Inspect, Trace, Votes, Join, Live, Reflect, Drill}
+use Rattle.command_words.specs.declared.words.Command.TheVariants.{Stamp, Check, Replay, Inspect, Trace, Votes, Hub, Join, Live, Reflect, Drill}
 use Rattle.command_words.specs.declared.words.DrillRequest.{DrillRequest}
 use Rattle.connection.specs.declared.ending.Ended.{Ended}
 use Rattle.session_log.specs.Stored.{stored_spelling}
@@ -17,9 +17,9 @@ use Rattle.reflect_server.specs.Reflects.{CountsFailure}
 use Rattle.reflect_server.specs.declared.reflection.Reflected.{Reflected}
 use Rattle.reflect_server.specs.declared.reflection.ServeFault.{ServeFault}
 use Rattle.reflect_server.specs.declared.reflection.ServeFault.TheVariants as serve_fault
-use Rattle.command_outcome.specs.Outcome.{optional_put, steps_of}
+use Rattle.command_outcome.specs.Outcome.{numbered_puts, optional_put, steps_of}
 use Rattle.command_reflect.specs.ReflectedSteps.{reflected_bytes, reflected_text}
-use Rattle.command_drill.specs.DrilledSteps.{drilled_line, drilled_steps, snapshot_puts}
+use Rattle.command_drill.specs.DrilledSteps.{drilled_line, drilled_steps}
 use Rattle.drill.specs.Drill.{drill_id}
 use Rattle.drill.specs.Ending.{root_total}
 use Rattle.drill.specs.declared.report.DrillReport.{DrillReport}
@@ -76,7 +76,7 @@ reflected_alike (Some name) ends session verdict (rest, is, comes) =
 
 drilled_gives : (request : DrillRequest) (session : PlainSession) (snapshots : List (List ℕ)) (total : ℤ) (agree : ℕ) → IsGiving (drilled_steps request session snapshots total agree)
 drilled_gives request session snapshots total agree =
-    giving (record { name = request.log; bytes = stored_spelling (stored_of session) } ∷ snapshot_puts request.snapshots 1 snapshots) (drilled_line request (length session.log) total agree)
+    giving (record { name = request.log; bytes = stored_spelling (stored_of session) } ∷ numbered_puts request.snapshots 1 snapshots) (drilled_line request (length session.log) total agree)
 
 module _ {F W N L : Type 0} (files : FilesTell F) (out : OutputTells W) (net : NetTells N L) (links : LinksTell L) where
   -- ---- by steps
@@ -256,6 +256,7 @@ module _ {F W N L : Type 0} (files : FilesTell F) (out : OutputTells W) (net : N
   names_none (Some (Inspect request)) old right = tt
   names_none (Some (Trace request)) old right = tt
   names_none (Some (Votes log)) old right = tt
+  names_none (Some (Hub script logs)) old right = tt
   names_none (Some (Join request)) old right = tt
   names_none (Some (Live request)) old right = tt
   names_none (Some (Reflect request)) old right = right.0
@@ -270,6 +271,7 @@ module _ {F W N L : Type 0} (files : FilesTell F) (out : OutputTells W) (net : N
   lives_none (Some (Inspect request)) old right = tt
   lives_none (Some (Trace request)) old right = tt
   lives_none (Some (Votes log)) old right = tt
+  lives_none (Some (Hub script logs)) old right = tt
   lives_none (Some (Join request)) old right = tt
   lives_none (Some (Live request)) old right = absurd right
   lives_none (Some (Reflect request)) old right = tt

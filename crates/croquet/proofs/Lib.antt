@@ -11,5 +11,7 @@ pub mod RightSteps
 pub mod RightVerdicts
 pub mod VisitEnds
 pub mod Causes
+pub mod LiveCounts
+pub mod LiveCauses
 pub mod Completeness
 mod KeptRuns

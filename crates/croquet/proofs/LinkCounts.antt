@@ -13,13 +13,13 @@ use Rattle.croquet.proofs.Counts.{counts_stay, none_within, step_keeps}
 abbrev pub IsNoLower : ℕ → ℕ → Type 0
 IsNoLower before now = min before (2 ^ 64 - 1) ≤ now
 
-lower_on : (a b c : ℕ) → IsNoLower a b → IsNoLower b c → IsNoLower a c
+pub lower_on : (a b c : ℕ) → IsNoLower a b → IsNoLower b c → IsNoLower a c
 lower_on a b c first last = omega (arith, first, last)
 
-same_count : (a b : ℕ) → b ≡ a → IsNoLower a b
+pub same_count : (a b : ℕ) → b ≡ a → IsNoLower a b
 same_count a b is = omega (arith, is)
 
-rose_by : (a b c fault : ℕ) → IsNoLower a b → 1 ≤ fault → c ≡ sum_of b fault → Rose a c
+pub rose_by : (a b c fault : ℕ) → IsNoLower a b → 1 ≤ fault → c ≡ sum_of b fault → Rose a c
 rose_by a b c fault later failed is = omega (arith, later, failed, is)
 
 some_fault : (before now : ℕ) → Rose before now → 1 ≤ now
@@ -30,12 +30,12 @@ abbrev pub HasFailed : {L : Type 0} → LinksTell L → Option L → Type 0
 HasFailed links None = ⊥
 HasFailed links (Some link) = 1 ≤ (links.counts link).faults
 
-heard_fails : {L : Type 0} (links : LinksTell L) (what : Heard) (old new : Option L) → OnLink (HearsLink links Failed what) old new → HasFailed links new
+pub heard_fails : {L : Type 0} (links : LinksTell L) (what : Heard) (old new : Option L) → OnLink (HearsLink links Failed what) old new → HasFailed links new
 heard_fails links what None new never = absurd never
 heard_fails links what (Some old) None never = absurd never
 heard_fails links what (Some old) (Some new) hears = some_fault _ _ hears.cause
 
-sent_fails : {L : Type 0} (links : LinksTell L) (frame : List ℕ) (old new : Option L) → OnLink (SendsFrame links Failed frame) old new → HasFailed links new
+pub sent_fails : {L : Type 0} (links : LinksTell L) (frame : List ℕ) (old new : Option L) → OnLink (SendsFrame links Failed frame) old new → HasFailed links new
 sent_fails links frame None new never = absurd never
 sent_fails links frame (Some old) None never = absurd never
 sent_fails links frame (Some old) (Some new) sends = some_fault _ _ (sends.cause refl)

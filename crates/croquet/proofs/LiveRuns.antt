@@ -54,6 +54,7 @@ module _ {K W N L : Type 0} (tells : LiveTells K W N L) (address : List ℕ) (fi
           cut = stopped.cut;
           acts = stopped.acts;
           ends = ends_wanting _ stopped.last stopped.cut code kept stopped.ends;
+          fair = stopped.fair;
         };
         back = ran.back;
       }
@@ -88,7 +89,7 @@ module _ {K W N L : Type 0} (feed : FeedTells K) (out : OutputTells W) (net : Ne
     said = w;
     ran = record {
       mid = live_outside k w n None;
-      stopped = record { turns = []; last = None; cut = None; acts = refl; ends = inr refl };
+      stopped = record { turns = []; last = None; cut = None; acts = refl; ends = inr refl; fair = tt };
       back = (refl, refl);
     };
     told = told;

@@ -38,12 +38,15 @@ use Rattle.command_words.specs.declared.words.TraceRequest.{TraceRequest}
 use Rattle.command_words.specs.declared.words.JoinRequest.{JoinRequest}
 use Rattle.command_words.specs.declared.words.ReflectRequest.{ReflectRequest}
 use Rattle.command_words.specs.declared.words.Command.{Command}
-use Rattle.command_words.specs.declared.words.Command.TheVariants.{Stamp, Check, Replay, Inspect, Trace, Votes, Join, Live, Reflect, Drill}
+use Rattle.command_words.specs.declared.words.Command.TheVariants.{Stamp, Check, Replay, Inspect, Trace, Votes, Hub, Join, Live, Reflect, Drill}
 use Rattle.model_tree.specs.Bounds.{most_program_bytes}
 use Rattle.tea_base.specs.Limits.{most_snapshot}
-use Rattle.commands.specs.Verdict.{ByDrill, ByKeeping, ByReflecting, ByVisit, Closing, Coming, Fine, OfFile, OfInspectedLog, OfInspect, OfJoin, OfJournal, OfKeyframes, OfOpening, OfProgram, OfQueries, OfReflect, OfRight, OfScript, OfServed, OfSnapshot, OfLog, OfOwn, OfReflected, IsLog, PlainReflection, PlainSource, first_source, names_no_other, trace_verdict, OfTimeLine, OfTrace, OfTraced, OfTracedLog, OfTree, OfUnkept, OfView, OfViewScript, OfWords, Only, Starts, Verdict, OfFounded, OfJson, OfPersisted, OfRecorded, ask_file, at_once, before, count_verdict, fine, founded, inspect_verdict, keeping_of, keeps_few, most_queries, most_script, reflection_of, session_id_of, stamp_verdict, visit_to, votes_verdict, world_puts, most_log}
+use Rattle.command_hub.specs.declared.script.HubLine.{HubLine}
+use Rattle.command_hub.specs.HubScript.{hub_script_of}
+use Rattle.command_hub.specs.HubRun.{hub_puts, hub_run}
+use Rattle.commands.specs.Verdict.{ByDrill, ByKeeping, ByReflecting, ByVisit, Closing, Coming, Fine, OfFile, OfInspectedLog, OfInspect, OfJoin, OfJournal, OfKeyframes, OfOpening, OfProgram, OfQueries, OfReflect, OfRight, OfScript, OfServed, OfSnapshot, OfLog, OfOwn, OfReflected, IsLog, PlainReflection, PlainSource, first_source, names_no_other, trace_verdict, OfTimeLine, OfTrace, OfTraced, OfTracedLog, OfTree, OfUnkept, OfView, OfViewScript, OfWords, Only, Starts, Verdict, OfFounded, OfJson, OfPersisted, OfRecorded, ask_file, at_once, before, count_verdict, fine, founded, inspect_verdict, keeping_of, keeps_few, most_queries, most_script, reflection_of, session_id_of, stamp_verdict, visit_to, votes_verdict, world_puts, most_log, OfHubScript}
 use Rattle.commands.proofs.Agreement.{late_verdict}
-use Rattle.croquet.specs.Complete.{HasRightInput, HoldsFile, HoldsInspection, HoldsOpening, HoldsPersisted, HoldsProgram, HoldsRecording, HoldsStart, HoldsTrace, IsJsonText, IsAny, IsLogText, IsOwn, IsQueriesText, IsScriptText, IsSnapshotUntil, IsProgramText, IsViewScriptText, NamesAddress, persisted_in}
+use Rattle.croquet.specs.Complete.{HasRightInput, HoldsFile, HoldsInspection, HoldsOpening, HoldsPersisted, HoldsProgram, HoldsRecording, HoldsStart, HoldsTrace, IsJsonText, IsAny, IsLogText, IsOwn, IsQueriesText, IsHubScriptText, IsHubScriptText, IsScriptText, IsSnapshotUntil, IsProgramText, IsViewScriptText, NamesAddress, persisted_in}
 use Rattle.croquet.proofs.RightSteps.{AreRight, GivesHeld, IsGiving, giving_are_right}
 
 -- what is put and printed is put and printed alone
@@ -147,6 +150,12 @@ module _ {F : Type 0} (files : FilesTell F) (old : F) where
   script_right from log script requests is opening =
       subst (λ (s : Option (List Request)). ComesRight (files.held old) ClosesWell (OfScript from log s)) (sym is)
       (opening_right ClosesWell IsAny from (λ source. Only (stamp_verdict (session_of source.stored) log requests)) opening tt (λ source any. stamp_right (files.held old) log requests (session_of source.stored)))
+
+  hub_script_right : (logs : Option (List ℕ)) (script : Option (List HubLine)) (lines : List HubLine) → script ≡ Some lines → ComesRight (files.held old) ClosesWell (OfHubScript logs script)
+  hub_script_right logs script lines is =
+      let run = hub_run lines in
+      subst (λ (s : Option (List HubLine)). ComesRight (files.held old) ClosesWell (OfHubScript logs s)) (sym is)
+      (fine_right (files.held old) (hub_puts logs run.hub) run.text (OfHubScript logs (Some lines)) refl)
 
   snapshot_right : (request : ReplayRequest) (tree : ProgramTree) (id : List ℕ) (log : List Entry) (bytes : List ℕ) → IsSnapshotUntil request.time (field_counts tree) id bytes → ComesRight (files.held old) ClosesWell (OfSnapshot request tree id log bytes)
   snapshot_right request tree id log bytes (start, is, early) =
@@ -266,6 +275,9 @@ module _ {F : Type 0} (files : FilesTell F) (old : F) where
   words_right (Some (Trace request)) right = trace_right request right
   words_right (Some (Votes log)) right =
       log_read ClosesWell IsAny log (λ source. Only (votes_verdict source.stored.log)) right (fine_right (files.held old) [] (votes_text right.right.0.stored.log) (Only (votes_verdict right.right.0.stored.log)) refl)
+  words_right (Some (Hub script logs)) right =
+      read_right ClosesWell input.Script (ask_file script most_script) (λ bytes. OfHubScript logs (hub_script_of bytes)) IsHubScriptText right
+      (hub_script_right logs (hub_script_of right.bytes) right.right.0 right.right.1)
   words_right (Some (Reflect request)) right = reflect_right request right.0 right.1 right.2 right.3 right.4
   words_right (Some (Drill request)) right = closed_right (files.held old) ClosesWell (ByDrill request) (OfWords (Some (Drill request))) tt refl
   words_right (Some (Live request)) never = absurd never

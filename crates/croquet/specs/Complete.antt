@@ -22,7 +22,9 @@ use Rattle.command_words.specs.declared.words.ReplayRequest.{ReplayRequest}
 use Rattle.command_words.specs.declared.words.InspectRequest.{InspectRequest}
 use Rattle.command_words.specs.declared.words.TraceRequest.{TraceRequest}
 use Rattle.command_words.specs.declared.words.Command.{Command}
-use Rattle.command_words.specs.declared.words.Command.TheVariants.{Stamp, Check, Replay, Inspect, Trace, Votes, Join, Live, Reflect, Drill}
+use Rattle.command_words.specs.declared.words.Command.TheVariants.{Stamp, Check, Replay, Inspect, Trace, Votes, Hub, Join, Live, Reflect, Drill}
+use Rattle.command_hub.specs.declared.script.HubLine.{HubLine}
+use Rattle.command_hub.specs.HubScript.{hub_script_of}
 use Rattle.command_stamp.specs.Script.{script_of}
 use Rattle.time_line.specs.Keyframes.{most_frames}
 use Rattle.command_inspect.specs.declared.query.Query.{Query}
@@ -47,6 +49,9 @@ IsScriptText bytes = (requests : List Request) × (script_of bytes ≡ Some requ
 
 abbrev pub IsViewScriptText : List ℕ → Type 0
 IsViewScriptText bytes = (lines : List PlainLine) × (view_script_of bytes ≡ Some lines)
+
+abbrev pub IsHubScriptText : List ℕ → Type 0
+IsHubScriptText bytes = (lines : List HubLine) × (hub_script_of bytes ≡ Some lines)
 
 abbrev pub IsQueriesText : List ℕ → Type 0
 IsQueriesText bytes = (queries : List Query) × (queries_of bytes ≡ Some queries)
@@ -132,6 +137,7 @@ HasRightInput files old (Some (Replay request)) = HoldsRecording files old reque
 HasRightInput files old (Some (Inspect request)) = HoldsInspection files old request
 HasRightInput files old (Some (Trace request)) = HoldsTrace files old request
 HasRightInput files old (Some (Votes log)) = HoldsFile files old log most_log (IsLogText IsAny)
+HasRightInput files old (Some (Hub script logs)) = HoldsFile files old script most_script IsHubScriptText
 HasRightInput files old (Some (Join request)) =
     HoldsProgram files old request.program × NamesAddress request.address × HoldsFile files old request.script most_script IsViewScriptText × HoldsPersisted files old request.persisted
 -- of a view whose lines come to its run nothing is said

@@ -4,3 +4,4 @@ pub mod Run
 pub mod Calls
 pub mod Keeps
 pub mod Complete
+pub mod LiveEnds

@@ -1,8 +1,9 @@
 //! The run of a live view, as a command asks for it.
-ghost use Rattle.run_steps.specs.Outside.{links_tell, net_tells, output_tells};
+ghost use Rattle.run_steps.specs.Outside.{files_tell, links_tell, net_tells, output_tells};
 ghost use Rattle.live_shell.specs.LiveSteps.{feed_tells, live_tells};
 ghost use Rattle.commands.specs.Work.{plain_live};
 ghost use Rattle.croquet.specs.Calls.{LiveViewRan, TellsLiveEnd};
+ghost use Rattle.croquet.specs.LiveEnds.{LiveEndsAreCaused};
 
 use crate::status::Status;
 use crate::telling::{tell, tell_view_end, tell_want_of_memory};
@@ -10,7 +11,8 @@ use commands::LiveStart;
 use live_shell::{Feed, LiveEnd, LiveVisit, run_live};
 use std::alloc::Global;
 use std::sync::{Arc, Wait};
-use tea_io::{Net, Sink};
+use tea_io::{Files, Net, Sink};
+use view_follows::live_ends_are_caused;
 
 /// Tells how the run of a live view has ended.
 fn tell_live_end<W: Sink>(alloc: Global, out: &mut W, end: LiveEnd) -> Status
@@ -53,4 +55,13 @@ pub fn run_live_view<R: Wait, N: Net, K: Feed, W: Sink>(
     };
     let end = run_live(rt, alloc, &visit, net, feed, out);
     tell_live_end(alloc, out, end)
+}
+
+/// Which links keep a live view's run from an end that is not its lines'.
+pub(crate) fn live_runs_are_caused<F: Files, N: Net, K: Feed, W: Sink>()
+    ensures { LiveEndsAreCaused (files_tell F.held F.asked F.faults F.wants) (feed_tells K.coming K.told K.faults) (output_tells W.written W.faults W.wants)
+        (net_tells N.coming N.over N.asked N.faults N.lent N.link_counts)
+        (links_tell N.Conn.coming N.Conn.heard N.Conn.sent N.Conn.counts) }
+{
+    live_ends_are_caused();
 }

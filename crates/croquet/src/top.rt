@@ -1,9 +1,11 @@
 //! The top call: all that the program does.
-ghost use Rattle.std.specs.Prelude.{◌≡◌, None};
+ghost use Rattle.std.specs.Prelude.{◌≡◌, None, List};
 ghost use Rattle.run_steps.specs.Calls.{came_of, given_of};
 ghost use Rattle.run_steps.specs.Outside.{ReadsFile, desk, desk_tells, files_tell, links_tell, net_tells, output_tells, outside, outside_tells};
 ghost use Rattle.command_words.specs.CommandWords.{command_of};
 ghost use Rattle.command_words.specs.Bounds.{UsesNet};
+ghost use Rattle.command_hub.specs.HubRun.{IsOfCalls};
+ghost use Rattle.command_hub.specs.declared.script.HubLine.{HubLine};
 ghost use Rattle.commands.specs.Laws.{IsFunction, LogsTellTheirEvents, SnapshotsAgree, SomeVerdictComes};
 ghost use Rattle.commands.specs.Verdict.{Comes};
 ghost use Rattle.commands.specs.Work.{ComesNext, IsBoundedNext, ask_of, RunsOn};
@@ -13,21 +15,25 @@ ghost use Rattle.view_follows.specs.SessionsReplay.{EndsViews, OfViewRuns};
 ghost use Rattle.view_follows.specs.ViewsReplay.{VisitsEndInReplay};
 ghost use Rattle.view_shell.specs.Agreeing.{HasWorldOfLog, HaveOneDigest, VotesWithWorldOfLog};
 ghost use Rattle.view_shell.specs.OneRun.{IsOneRun};
+ghost use Rattle.votes_differ.specs.Runners.{DivergedShows, SplitsShow};
 ghost use Rattle.croquet.specs.Calls.{IsBoundedTurn, IsOver, Turns};
 ghost use Rattle.croquet.specs.Complete.{IsComplete};
+ghost use Rattle.croquet.specs.LiveEnds.{LiveEndsAreCaused};
 ghost use Rattle.croquet.specs.Run.{Ran, StoresKeepPlays};
 ghost use Rattle.journal_store.specs.Stores.{stores_tell};
 ghost use Rattle.live_shell.specs.LiveSteps.{feed_tells};
+ghost use Rattle.live_view.specs.Script.{LiveIsScript};
 
 use crate::drilling::tell_drilled;
 use crate::giving::finish;
 use crate::keeping::prepare;
 use crate::kept::{serve_kept, stores_keep_plays};
-use crate::living::run_live_view;
+use crate::living::{live_runs_are_caused, run_live_view};
 use crate::reflecting::tell_reflected;
 use crate::status::Status;
 use crate::telling::{tell, tell_refusal, tell_want_of_memory};
 use crate::visiting::run_visit;
+use command_hub::names_are_apart;
 use command_reflect::{Keeping, Reflection};
 use command_words::{DrillRequest, read_command};
 use commands::{
@@ -36,6 +42,7 @@ use commands::{
 };
 use drill::{Size, drill};
 use live_shell::Feed;
+use live_view::live_is_script;
 use reflect_server::{Server, reflect};
 use run_steps::{CallFault, read_file};
 use std::alloc::Global;
@@ -49,6 +56,7 @@ use view_follows::{
     views_replay,
 };
 use view_shell::{one_run, votes_agree};
+use votes_differ::one_did_not_run;
 
 /// A command is over, or the run goes on as a view's, a live view's, a reflector's, or a drill.
 #[derive(Drop)]
@@ -110,7 +118,7 @@ pub(crate) fn go_on<F: Files, W: Sink>(
 }
 
 /// Runs what the words ask for up to its end, or up to a view's run, a live view's, a reflector's, or a drill. [`croquet`] begins so. It waits for nobody, so it
-/// returns: `stamp`, `check`, `replay`, `inspect`, `trace` and `votes` are over then, and so are words that are refused.
+/// returns: `stamp`, `check`, `replay`, `inspect`, `trace`, `votes` and `hub` are over then, and so are words that are refused.
 pub fn begin<F: Files, W: Sink>(alloc: Global, words: &Words, files: &mut F, out: &mut W) -> Turn
     ensures turns { Turns (desk_tells (files_tell F.held F.asked F.faults F.wants) (output_tells W.written W.faults W.wants))
         result (Comes (command_of words.now)) (desk files.old out.old) (desk files.new out.new) }
@@ -173,8 +181,14 @@ pub fn croquet<
     ensures kept { StoresKeepPlays (stores_tell S.held S.faults J.bytes J.safe J.faults) }
     // One verdict comes of a command and of the bytes that it reads, but for want of memory and for the place of a syntax fault.
     ensures function { IsFunction }
+    // A live view ends with its links, refused, by its peer, or by a fault of the net only where its links caused it.
+    ensures caused { LiveEndsAreCaused (files_tell F.held F.asked F.faults F.wants) (feed_tells K.coming K.told K.faults) (output_tells W.written W.faults W.wants)
+        (net_tells N.coming N.over N.asked N.faults N.lent N.link_counts)
+        (links_tell N.Conn.coming N.Conn.heard N.Conn.sent N.Conn.counts) }
     // A view prints one text and sends the same frames, for what its links tell.
     ensures view { IsOneRun }
+    // Where all lines of a live view, and their end, come before the first frame, it prints and sends what the script of these lines does.
+    ensures script { LiveIsScript }
     // A view's run that is done printed last the line of the replay of the log, where one legal log served its links, with honest bases.
     ensures replays { VisitsEndInReplay }
     // However often a reflector whose only clients are views was started again on the file that it wrote, each view that is done printed last
@@ -198,6 +212,12 @@ pub fn croquet<
     ensures world { HasWorldOfLog }
     ensures votes { HaveOneDigest }
     ensures vote { VotesWithWorldOfLog }
+    // A vote of a log that is answered `Diverged` shows that one of two views did not run the program on the log: that one, or the one of the first
+    // vote on the entry. So do the two votes that `votes` prints as diverged.
+    ensures diverged { DivergedShows }
+    ensures splits { SplitsShow }
+    // What a hub's script leaves and prints is what calls leave and reply, one for each line, and each session of it is as if it were alone.
+    ensures apart { (lines : List HubLine) → IsOfCalls lines }
     // No command but `join` and `reflect` has a net.
     ensures net { ¬ UsesNet (command_of words.now) → result.0 ≡ net }
     // Where the snapshot of a replay is of a world that follows the log, the same comes of it as without it.
@@ -207,7 +227,11 @@ pub fn croquet<
     one_verdict();
     one_run();
     votes_agree();
+    one_did_not_run();
+    names_are_apart();
     ends_are_caused();
+    live_runs_are_caused::<F, N, K, W>();
+    live_is_script();
     views_replay();
     views_of_many_runs::<C, N::Conn>();
     views_of_any_runs::<C, N::Conn>();

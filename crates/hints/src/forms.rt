@@ -17,7 +17,7 @@ pub struct CommandForm {
 }
 
 /// The commands, each in a form of words: what a command takes in order, then its options; those in brackets may be left out.
-pub const COMMANDS: [CommandForm; 10] = [
+pub const COMMANDS: [CommandForm; 11] = [
     CommandForm {
         form: "stamp SCRIPT [--from LOG] [--log FILE]",
         does: "makes the log of a session from a script of requests",
@@ -43,6 +43,10 @@ pub const COMMANDS: [CommandForm; 10] = [
         does: "counts the votes of a log on the digests of its worlds",
     },
     CommandForm {
+        form: "hub SCRIPT [--logs PREFIX]",
+        does: "makes the logs of many sessions from a script of requests, each to the session that its line names",
+    },
+    CommandForm {
         form: "join PROGRAM NAME ADDRESS VIEW SCRIPT [--persisted JSON]",
         does: "takes part in a session as a view, by a script",
     },
@@ -65,6 +69,8 @@ pub const COMMANDS: [CommandForm; 10] = [
 pub enum Grammar {
     /// A session script.
     Session,
+    /// A hub's script.
+    Hub,
     /// A view script.
     View,
     /// The lines that a live view is given.
@@ -77,7 +83,7 @@ impl Grammar {
     /// What a line is called.
     pub fn line_name(self) -> &'static str {
         match self {
-            Grammar::Session => "request",
+            Grammar::Session | Grammar::Hub => "request",
             Grammar::View | Grammar::Live => "line",
             Grammar::Queries => "query",
         }
@@ -86,7 +92,7 @@ impl Grammar {
     /// The names of all its lines.
     pub fn names(self) -> &'static str {
         match self {
-            Grammar::Session => "join, send, tick, leave, offer and pull",
+            Grammar::Session | Grammar::Hub => "join, send, tick, leave, offer and pull",
             Grammar::View => "publish, watch, wait, settle, snap, cut, quit, mark, vote and show",
             Grammar::Live =>
                 "publish, watch, wait, settle, snap, cut, quit, mark, vote, show and hold",
@@ -97,7 +103,7 @@ impl Grammar {
     /// The form of the lines of a name.
     pub fn form(self, name: &[u8]) -> Option<&'static str> {
         match self {
-            Grammar::Session => session_form(name),
+            Grammar::Session | Grammar::Hub => session_form(name),
             Grammar::Live if name == b"hold".as_slice() => Some("hold N"),
             Grammar::View | Grammar::Live => view_form(name),
             Grammar::Queries => query_form(name),

@@ -213,6 +213,7 @@ fn of_text(
 fn script_grammar(command: &Command) -> Grammar {
     match command {
         Command::Stamp { .. } => Grammar::Session,
+        Command::Hub { .. } => Grammar::Hub,
         _ => Grammar::View,
     }
 }

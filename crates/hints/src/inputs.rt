@@ -91,6 +91,7 @@ pub fn file_of(command: &Command, input: Input) -> Option<&Text> {
         Input::Persisted => persisted_of(command),
         Input::Script => match command {
             Command::Stamp { script, .. } => Some(script),
+            Command::Hub { script, .. } => Some(script),
             Command::Join(request) => Some(&request.script),
             _ => None,
         },

@@ -1,6 +1,7 @@
-//! Hints on session scripts, view scripts and queries: the first line that its reader refuses, and the word in it that is at fault.
+//! Hints on session scripts, hubs' scripts, view scripts and queries: the first line that its reader refuses, and the word in it that is at fault.
 use crate::forms::{Grammar, Kind, is_of_kind, line_kind, positionals, rule, words_of_line};
 use crate::place::{Source, Span, part, push_hint, push_marked, shown};
+use command_hub::read_hub_script;
 use command_inspect::{QueriesFault, parse_queries};
 use command_stamp::read_script;
 use std::alloc::Global;
@@ -14,6 +15,9 @@ const BYTE_ORDER_MARK: &[u8; 3] = b"\xef\xbb\xbf";
 
 /// The most bytes of a line that a live view takes.
 const MOST_LINE: usize = 65_536;
+
+/// The most bytes of the name of a session.
+const MOST_NAME: usize = 255;
 
 /// The most links that a live view makes again.
 const MOST_HOLDS: u64 = 4_294_967_295;
@@ -51,6 +55,7 @@ fn is_hold(alloc: Global, line: &[u8]) -> Result<bool, WantOfMemory> {
 fn is_refused(alloc: Global, grammar: Grammar, bytes: &[u8]) -> Result<bool, WantOfMemory> {
     match grammar {
         Grammar::Session => Ok(read_script(alloc, bytes)?.is_none()),
+        Grammar::Hub => Ok(read_hub_script(alloc, bytes)?.is_none()),
         Grammar::View => is_no_view_script(alloc, bytes),
         Grammar::Live => Ok(!is_hold(alloc, bytes)? && is_no_view_script(alloc, bytes)?),
         Grammar::Queries => match parse_queries(alloc, bytes) {
@@ -155,6 +160,30 @@ fn name_fault(
     })
 }
 
+/// What is wrong with the words that name the session of a hub's line.
+fn session_fault(
+    alloc: Global,
+    line: &[u8],
+    words: &[Span],
+) -> Result<Option<LineFault>, WantOfMemory> {
+    let first = words.first().copied().unwrap_or(Span::new(0, 1));
+    if part(line, first) != b"in".as_slice() {
+        let message = "a line of a hub begins with `in`, in `in NAME REQUEST`";
+        return Ok(Some(at(first, alloc, message)?));
+    }
+    let end = Span::new(line.len(), 1);
+    let Some(name) = words.get(1) else {
+        return Ok(Some(at(end, alloc, "NAME is missing, in `in NAME REQUEST`")?));
+    };
+    if name.len > MOST_NAME {
+        return Ok(Some(at(*name, alloc, "NAME has at most 255 bytes")?));
+    }
+    match words.get(2) {
+        Some(_) => Ok(None),
+        None => Ok(Some(at(end, alloc, "REQUEST is missing, in `in NAME REQUEST`")?)),
+    }
+}
+
 /// What is wrong with the words of a line, the first word that is at fault.
 fn word_fault(
     alloc: Global,
@@ -241,11 +270,18 @@ fn line_fault(alloc: Global, grammar: Grammar, line: &[u8]) -> Result<LineFault,
         return Ok(fault);
     }
     let words = words_of_line(alloc, line, grammar)?;
-    let name = words.first().copied().unwrap_or(Span::new(0, 1));
+    let mut rest = words.as_slice();
+    if grammar == Grammar::Hub {
+        if let Some(fault) = session_fault(alloc, line, rest)? {
+            return Ok(fault);
+        }
+        rest = rest.get(2..).unwrap_or_default();
+    }
+    let name = rest.first().copied().unwrap_or(Span::new(0, 1));
     let Some(form) = grammar.form(part(line, name)) else {
         return name_fault(alloc, grammar, line, name);
     };
-    match word_fault(alloc, line, &words, form)? {
+    match word_fault(alloc, line, rest, form)? {
         Some(fault) => Ok(fault),
         None => at(
             Span::new(0, line.len()),

@@ -4,12 +4,13 @@ use Rattle.std.specs.Prelude.{◌⊎◌}
 use Rattle.view_shell.specs.declared.ending.ViewEnd.{ViewEnd}
 use Rattle.view_shell.specs.declared.ending.ViewEnd.TheVariants as ending
 use Rattle.run_steps.specs.Outside.{Came, Well, Failed, WantedMemory}
+use Rattle.live_view.specs.declared.input.LiveInput.{LiveInput}
 use Rattle.live_view.specs.Live.{LiveState, LiveTold, live_step}
 use Rattle.live_shell.specs.declared.ending.LiveEnd.{LiveEnd}
 use Rattle.live_shell.specs.declared.ending.LiveEnd.TheVariants as live_end
 use Rattle.live_shell.specs.declared.feed.Fed.TheVariants as fed
 use Rattle.live_shell.specs.LiveSteps.{LiveStep, Asks, Sends, Prints as LivePrints, LiveTells, LiveOutside, LiveCut, LiveActs, live_outside}
-use Rattle.live_shell.specs.LiveRun.{EndsLive, IsLiveCutEnd, Stopped, Turn, Turned, Turns, answers, asks_last, here_text, prints, state_after, steps_of, told_steps}
+use Rattle.live_shell.specs.LiveRun.{AreCounted, EndsLive, IsFair, IsLiveCutEnd, Stopped, Turn, Turned, Turns, and_last, answers, asks_last, here_text, lines_after, lines_behind, prints, state_after, steps_of, told_steps}
 use Rattle.live_shell.specs.Calls.{AnswersAll, IsEndOf, PrintsSome, SendsAll, SendsButNot, SendsNot}
 
 -- ---- steps in a row
@@ -43,19 +44,37 @@ steps_both address s (Some told ∷ first) more =
     ap (λ steps. told_steps address s told ++ steps) (steps_both address (live_step s told).state first more)
     ∙ sym (append_assoc (told_steps address s told) (steps_of address (live_step s told).state first) (steps_of address (state_after (live_step s told).state first) more))
 
-pub turned_then : {K W N L : Type 0} (tells : LiveTells K W N L) (address : List ℕ) (s0 s1 s2 : LiveState) (old mid new : LiveOutside K W N L)
-    → Turned tells address s0 s1 old mid → Turned tells address s1 s2 mid new → Turned tells address s0 s2 old new
-turned_then tells address s0 s1 s2 old mid new before behind =
+-- ---- turns that are due
+
+fair_both : (lines : ℕ) (first more : List Turn) → IsFair lines first → IsFair (lines_after lines first) more → IsFair lines (first ++ more)
+fair_both lines [] more fair on = on
+fair_both lines (turn ∷ first) more (due, fair) on = (due, fair_both (lines_behind lines turn) first more fair on)
+
+after_both : (lines : ℕ) (first more : List Turn) → lines_after lines (first ++ more) ≡ lines_after (lines_after lines first) more
+after_both lines [] more = refl
+after_both lines (turn ∷ first) more = after_both (lines_behind lines turn) first more
+
+last_both : (first more : List Turn) (last : Option LiveInput) → and_last (first ++ more) last ≡ first ++ and_last more last
+last_both first more None = refl
+last_both first more (Some told) = append_assoc first more (Some told ∷ [])
+
+-- ---- turns, and then others
+
+pub turned_then : {K W N L : Type 0} (tells : LiveTells K W N L) (address : List ℕ) (lines : ℕ) (Mid Behind : ℕ → Type 0) (s0 s1 s2 : LiveState) (old mid new : LiveOutside K W N L)
+    → (before : Turned tells address lines Mid s0 s1 old mid) → Turned tells address (lines_after lines before.turns) Behind s1 s2 mid new → Turned tells address lines Behind s0 s2 old new
+turned_then tells address lines Mid Behind s0 s1 s2 old mid new before behind =
     let steps = steps_both address s0 before.turns behind.turns ∙ ap (λ s. steps_of address s0 before.turns ++ steps_of address s behind.turns) before.state in
     record {
       turns = before.turns ++ behind.turns;
       acts = subst (λ ss. LiveActs tells ss None old new) (sym steps) (acts_then tells (steps_of address s0 before.turns) (steps_of address s1 behind.turns) None old mid new before.acts behind.acts);
       state = state_both s0 before.turns behind.turns ∙ ap (λ s. state_after s behind.turns) before.state ∙ behind.state;
+      fair = fair_both lines before.turns behind.turns before.fair behind.fair;
+      behind = subst Behind (sym (after_both lines before.turns behind.turns)) behind.behind;
     }
 
-pub stopped_then : {K W N L : Type 0} (tells : LiveTells K W N L) (address : List ℕ) (s0 s1 : LiveState) (end : LiveEnd) (old mid new : LiveOutside K W N L)
-    → Turned tells address s0 s1 old mid → Stopped tells address s1 end mid new → Stopped tells address s0 end old new
-stopped_then tells address s0 s1 end old mid new before behind =
+pub stopped_then : {K W N L : Type 0} (tells : LiveTells K W N L) (address : List ℕ) (lines : ℕ) (Mid : ℕ → Type 0) (s0 s1 : LiveState) (end : LiveEnd) (old mid new : LiveOutside K W N L)
+    → (before : Turned tells address lines Mid s0 s1 old mid) → Stopped tells address (lines_after lines before.turns) s1 end mid new → Stopped tells address lines s0 end old new
+stopped_then tells address lines Mid s0 s1 end old mid new before behind =
     let steps = steps_both address s0 before.turns behind.turns ∙ ap (λ s. steps_of address s0 before.turns ++ steps_of address s behind.turns) before.state in
     let all : steps_of address s0 (before.turns ++ behind.turns) ++ asks_last address behind.last ≡ steps_of address s0 before.turns ++ (steps_of address s1 behind.turns ++ asks_last address behind.last) =
     ap (λ ss. ss ++ asks_last address behind.last) steps ∙ append_assoc (steps_of address s0 before.turns) (steps_of address s1 behind.turns) (asks_last address behind.last) in
@@ -66,17 +85,34 @@ stopped_then tells address s0 s1 end old mid new before behind =
       cut = behind.cut;
       acts = subst (λ ss. LiveActs tells ss behind.cut old new) (sym all) (acts_then tells (steps_of address s0 before.turns) (steps_of address s1 behind.turns ++ asks_last address behind.last) behind.cut old mid new before.acts behind.acts);
       ends = subst (λ (s : LiveState). EndsLive s.phase behind.last behind.cut end) (sym state) behind.ends;
+      fair = subst (IsFair lines) (sym (last_both before.turns behind.turns behind.last)) (fair_both lines before.turns (and_last behind.turns behind.last) before.fair behind.fair);
     }
 
--- what more turns come to, behind some
-pub turns_then : {K W N L A : Type 0} (tells : LiveTells K W N L) (address : List ℕ) (s0 s1 s2 : LiveState) (result : Result A LiveEnd) (old mid new : LiveOutside K W N L)
-    → Turned tells address s0 s1 old mid → Turns tells address s1 s2 result mid new → Turns tells address s0 s2 result old new
-turns_then tells address s0 s1 s2 (Ok it) old mid new before behind = turned_then tells address s0 s1 s2 old mid new before behind
-turns_then tells address s0 s1 s2 (Err end) old mid new before behind = stopped_then tells address s0 s1 end old mid new before behind
+-- where so many lines came in a row between
+pub turned_counted : {K W N L : Type 0} (tells : LiveTells K W N L) (address : List ℕ) (lines count : ℕ) (Behind : ℕ → Type 0) (s0 s1 s2 : LiveState) (old mid new : LiveOutside K W N L)
+    → Turned tells address lines (AreCounted count) s0 s1 old mid → Turned tells address count Behind s1 s2 mid new → Turned tells address lines Behind s0 s2 old new
+turned_counted tells address lines count Behind s0 s1 s2 old mid new before behind =
+    turned_then tells address lines (AreCounted count) Behind s0 s1 s2 old mid new before (subst (λ (n : ℕ). Turned tells address n Behind s1 s2 mid new) (sym before.behind) behind)
+
+pub stopped_counted : {K W N L : Type 0} (tells : LiveTells K W N L) (address : List ℕ) (lines count : ℕ) (s0 s1 : LiveState) (end : LiveEnd) (old mid new : LiveOutside K W N L)
+    → Turned tells address lines (AreCounted count) s0 s1 old mid → Stopped tells address count s1 end mid new → Stopped tells address lines s0 end old new
+stopped_counted tells address lines count s0 s1 end old mid new before behind =
+    stopped_then tells address lines (AreCounted count) s0 s1 end old mid new before (subst (λ (n : ℕ). Stopped tells address n s1 end mid new) (sym before.behind) behind)
+
+-- what more turns come to, after some
+pub turns_then : {K W N L A : Type 0} (tells : LiveTells K W N L) (address : List ℕ) (lines count : ℕ) (Behind : A → ℕ → Type 0) (s0 s1 s2 : LiveState) (result : Result A LiveEnd) (old mid new : LiveOutside K W N L)
+    → Turned tells address lines (AreCounted count) s0 s1 old mid → Turns tells address count Behind s1 s2 result mid new → Turns tells address lines Behind s0 s2 result old new
+turns_then tells address lines count Behind s0 s1 s2 (Ok it) old mid new before behind = turned_counted tells address lines count (Behind it) s0 s1 s2 old mid new before behind
+turns_then tells address lines count Behind s0 s1 s2 (Err end) old mid new before behind = stopped_counted tells address lines count s0 s1 end old mid new before behind
 
 -- no turn was made
-pub turned_none : {K W N L : Type 0} (tells : LiveTells K W N L) (address : List ℕ) (s : LiveState) (o : LiveOutside K W N L) → Turned tells address s s o o
-turned_none tells address s o = record { turns = []; acts = refl; state = refl }
+pub turned_none : {K W N L : Type 0} (tells : LiveTells K W N L) (address : List ℕ) (lines : ℕ) (Behind : ℕ → Type 0) (s : LiveState) (o : LiveOutside K W N L) → Behind lines → Turned tells address lines Behind s s o o
+turned_none tells address lines Behind s o is = record { turns = []; acts = refl; state = refl; fair = tt; behind = is }
+
+-- how many lines came in a row is not asked any more
+pub turned_any : {K W N L : Type 0} (tells : LiveTells K W N L) (address : List ℕ) (lines : ℕ) (Mid Behind : ℕ → Type 0) (s0 s1 : LiveState) (old new : LiveOutside K W N L) → ((n : ℕ) → Behind n)
+    → Turned tells address lines Mid s0 s1 old new → Turned tells address lines Behind s0 s1 old new
+turned_any tells address lines Mid Behind s0 s1 old new any turned = record { turns = turned.turns; acts = turned.acts; state = turned.state; fair = turned.fair; behind = any (lines_after lines turned.turns) }
 
 -- ---- what a view answers
 

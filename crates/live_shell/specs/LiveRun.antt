@@ -1,5 +1,5 @@
 -- A live run: what its view is told, in the order in which feed and link were asked, and what it does of that.
-use Rattle.std.specs.Prelude.{◌≡◌, ◌⊎◌, ℕ, Bool, true, false, List, [], ◌∷◌, ◌++◌, map, Option, Some, None, Result, MatchResult, codes}
+use Rattle.std.specs.Prelude.{◌≡◌, ◌⊎◌, ℕ, ◌+◌, ◌<◌, ◌≤◌, ⊤, Bool, true, false, List, [], ◌∷◌, ◌++◌, map, Option, Some, None, Result, MatchResult, codes}
 use Rattle.view_shell.specs.declared.ending.ViewEnd.{ViewEnd}
 use Rattle.view_shell.specs.declared.ending.ViewEnd.TheVariants as ending
 use Rattle.view_shell.specs.Phases.{Phase, Over}
@@ -16,6 +16,12 @@ use Rattle.live_shell.specs.LiveSteps.{LiveStep, Asks, Links, Hears, Sends, Prin
 -- a turn: the view is told something; or the feed was asked, and no line had come
 abbrev pub Turn : Type 0
 Turn = Option LiveInput
+
+-- what a view is told in turns
+abbrev pub inputs_in : List Turn → List LiveInput
+inputs_in [] = []
+inputs_in (None ∷ turns) = inputs_in turns
+inputs_in (Some told ∷ turns) = told ∷ inputs_in turns
 
 -- the calls that tell it; a link that is in use goes back before another one is made
 abbrev pub asked : List ℕ → LiveInput → List LiveStep
@@ -76,6 +82,41 @@ abbrev pub asks_last : List ℕ → Option LiveInput → List LiveStep
 asks_last address None = []
 asks_last address (Some told) = asked address told
 
+-- ---- which turn is due
+
+-- the most lines in a row before the link is heard
+abbrev pub most_lines : ℕ
+most_lines = 64
+
+-- So many lines came in a row behind a turn, where so many came before it. Where no line had come, or none will, it counts as the most.
+abbrev pub lines_behind : ℕ → Turn → ℕ
+lines_behind lines None = most_lines
+lines_behind lines (Some input.Closed) = most_lines
+lines_behind lines (Some (input.Line bytes)) = lines + 1
+lines_behind lines (Some other) = 0
+
+abbrev pub lines_after : ℕ → List Turn → ℕ
+lines_after lines [] = lines
+lines_after lines (turn ∷ turns) = lines_after (lines_behind lines turn) turns
+
+-- The feed has its turn until the most lines came in a row. Then the link is heard once. A link may be made behind any turn.
+abbrev pub IsDue : ℕ → Turn → Type 0
+IsDue lines None = lines < most_lines
+IsDue lines (Some input.Closed) = lines < most_lines
+IsDue lines (Some (input.Line bytes)) = lines < most_lines
+IsDue lines (Some (input.Says what)) = most_lines ≤ lines
+IsDue lines (Some other) = ⊤
+
+-- each of these turns was due, behind so many lines
+abbrev pub IsFair : ℕ → List Turn → Type 0
+IsFair lines [] = ⊤
+IsFair lines (turn ∷ turns) = IsDue lines turn × IsFair (lines_behind lines turn) turns
+
+-- with what the view was told last
+abbrev pub and_last : List Turn → Option LiveInput → List Turn
+and_last turns None = turns
+and_last turns (Some told) = turns ++ Some told ∷ []
+
 -- ---- how it ends
 
 -- how a run ends that is cut at a step, where its call came out so
@@ -93,46 +134,58 @@ EndsLive last None None end = ((how : ViewEnd) × (last ≡ Over how) × (end �
 EndsLive last (Some told) None end = end ≡ live_end.View ending.WantOfMemory
 EndsLive last more (Some cut) end = IsLiveCutEnd cut.came cut.step end
 
--- turns that were all done lead from one state of the outside, and of the view, to another
-pub record Turned {K W N L : Type 0} (tells : LiveTells K W N L) (address : List ℕ) (first last : LiveState) (old new : LiveOutside K W N L) : Type 0 where
+-- Turns that were all done lead from one state of the outside, and of the view, to another. Each was due, behind so many lines, and so many
+-- lines came in a row behind them.
+pub record Turned {K W N L : Type 0} (tells : LiveTells K W N L) (address : List ℕ) (lines : ℕ) (Behind : ℕ → Type 0) (first last : LiveState) (old new : LiveOutside K W N L) : Type 0 where
   pub turns : List Turn
   pub acts : LiveActs tells (steps_of address first turns) None old new
   pub state : state_after first turns ≡ last
+  pub fair : IsFair lines turns
+  pub behind : Behind (lines_after lines turns)
 
--- turns were done up to an end: up to a cut, or until the view had ended, or had no memory for what it was told last
-pub record Stopped {K W N L : Type 0} (tells : LiveTells K W N L) (address : List ℕ) (first : LiveState) (end : LiveEnd) (old new : LiveOutside K W N L) : Type 0 where
+-- turns were done up to an end: up to a cut, or until the view had ended, or had no memory for what it was told last; each was due
+pub record Stopped {K W N L : Type 0} (tells : LiveTells K W N L) (address : List ℕ) (lines : ℕ) (first : LiveState) (end : LiveEnd) (old new : LiveOutside K W N L) : Type 0 where
   pub turns : List Turn
   pub last : Option LiveInput
   pub cut : Option LiveCut
   pub acts : LiveActs tells (steps_of address first turns ++ asks_last address last) cut old new
   pub ends : EndsLive (state_after first turns).phase last cut end
+  pub fair : IsFair lines (and_last turns last)
 
 -- A run of a view from one state to its end: feed and link were asked in some order, and its steps are those of what they told, up to a
 -- cut. Then the link that is in use, if any, goes back.
 pub record LiveRan {K W N L : Type 0} (tells : LiveTells K W N L) (address : List ℕ) (first : LiveState) (end : LiveEnd) (old new : LiveOutside K W N L) : Type 0 where
   pub mid : LiveOutside K W N L
-  pub stopped : Stopped tells address first end old mid
+  pub stopped : Stopped tells address 0 first end old mid
   pub back : GoesBack tells mid new
 
 -- what turns come to: they were all done, or stopped
-abbrev pub Turns : {K W N L A : Type 0} → LiveTells K W N L → List ℕ → LiveState → LiveState → Result A LiveEnd → LiveOutside K W N L → LiveOutside K W N L → Type 0
-Turns tells address first last result old new = MatchResult result (λ it. Turned tells address first last old new) (λ end. Stopped tells address first end old new)
+abbrev pub Turns : {K W N L A : Type 0} → LiveTells K W N L → List ℕ → ℕ → (A → ℕ → Type 0) → LiveState → LiveState → Result A LiveEnd → LiveOutside K W N L → LiveOutside K W N L → Type 0
+Turns tells address lines Behind first last result old new =
+    MatchResult result (λ it. Turned tells address lines (Behind it) first last old new) (λ end. Stopped tells address lines first end old new)
+
+-- the answer is how many lines came in a row; or nothing is said of that
+abbrev pub AreCounted : ℕ → ℕ → Type 0
+AreCounted counted lines = lines ≡ counted
+
+abbrev pub AreAny : {A : Type 0} → A → ℕ → Type 0
+AreAny it lines = ⊤
 
 -- what turns on a link come to, over each net; the view behind them is named with the address of its session's reflector
-pub record Attends {K W N L A : Type 0} (tells : LiveTells K W N L) (first last : List ℕ → LiveState) (result : Result A LiveEnd) (feed feed' : K) (w w' : W) (l l' : L) : Type 0 where
-  pub turns : (address : List ℕ) (net : N) → Turns tells address (first address) (last address) result (live_outside feed w net (Some l)) (live_outside feed' w' net (Some l'))
+pub record Attends {K W N L A : Type 0} (tells : LiveTells K W N L) (lines : ℕ) (Behind : A → ℕ → Type 0) (first last : List ℕ → LiveState) (result : Result A LiveEnd) (feed feed' : K) (w w' : W) (l l' : L) : Type 0 where
+  pub turns : (address : List ℕ) (net : N) → Turns tells address lines Behind (first address) (last address) result (live_outside feed w net (Some l)) (live_outside feed' w' net (Some l'))
 
--- the same from the making of the link on
+-- the same from the making of the link on, behind any lines
 pub record Enters {K W N L A : Type 0} (tells : LiveTells K W N L) (first last : List ℕ → LiveState) (result : Result A LiveEnd) (feed feed' : K) (w w' : W) (l l' : L) : Type 0 where
-  pub turns : (address : List ℕ) (net : N) (from : LiveOutside K W N L) → LiveActs tells (asked address input.Linked) None from (live_outside feed w net (Some l))
-      → Turns tells address (first address) (last address) result from (live_outside feed' w' net (Some l'))
+  pub turns : (address : List ℕ) (net : N) (lines : ℕ) (from : LiveOutside K W N L) → LiveActs tells (asked address input.Linked) None from (live_outside feed w net (Some l))
+      → Turns tells address lines AreAny (first address) (last address) result from (live_outside feed' w' net (Some l'))
 
 -- turns, and then the link that is in use, if any, goes back
-pub record TurnsAndBack {K W N L A : Type 0} (tells : LiveTells K W N L) (address : List ℕ) (first last : LiveState) (result : Result A LiveEnd) (old new : LiveOutside K W N L) : Type 0 where
+pub record TurnsAndBack {K W N L A : Type 0} (tells : LiveTells K W N L) (address : List ℕ) (lines : ℕ) (first last : LiveState) (result : Result A LiveEnd) (old new : LiveOutside K W N L) : Type 0 where
   pub mid : LiveOutside K W N L
-  pub turns : Turns tells address first last result old mid
+  pub turns : Turns tells address lines AreAny first last result old mid
   pub back : GoesBack tells mid new
 
--- what a link comes to that is made behind one that goes back
+-- what a link comes to that is made behind one that goes back, behind any lines
 pub record Visits {K W N L A : Type 0} (tells : LiveTells K W N L) (address : List ℕ) (first last : LiveState) (result : Result A LiveEnd) (old new : LiveOutside K W N L) : Type 0 where
-  pub turns : (from : LiveOutside K W N L) → GoesBack tells from old → TurnsAndBack tells address first last result from new
+  pub turns : (lines : ℕ) (from : LiveOutside K W N L) → GoesBack tells from old → TurnsAndBack tells address lines first last result from new

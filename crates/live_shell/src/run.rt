@@ -1,5 +1,5 @@
 //! A live run.
-ghost use Rattle.std.specs.Prelude.{◌≡◌, ◌≤◌, ◌<◌, ℕ, List, None, IfErr, MatchBool, OnErr, OnOk};
+ghost use Rattle.std.specs.Prelude.{◌≡◌, ◌≤◌, ◌<◌, ℕ, List, None, Some, IfErr, MatchBool, OnErr, OnOk};
 ghost use Rattle.std.specs.Arc.{arc_value};
 ghost use Rattle.model_solved.specs.Founding.{founding_of};
 ghost use Rattle.run_steps.specs.Outside.{links_tell, net_tells, output_tells};
@@ -9,7 +9,7 @@ ghost use Rattle.live_view.specs.Script.{first_state};
 ghost use Rattle.live_view.specs.View.{IsLive, live_state};
 ghost use Rattle.live_view.specs.declared.input.LiveInput.TheVariants as tells;
 ghost use Rattle.live_shell.specs.LiveSteps.{feed_tells, live_outside, live_tells};
-ghost use Rattle.live_shell.specs.LiveRun.{Attends, Enters, LiveRan, PausesBy, StepsTo, Visits, WantsLink};
+ghost use Rattle.live_shell.specs.LiveRun.{AreAny, AreCounted, Attends, Enters, LiveRan, PausesBy, StepsTo, Visits, WantsLink, lines_behind};
 
 use crate::calls::{ask, hear, pause_if};
 use crate::ending::LiveEnd;
@@ -60,14 +60,17 @@ fn wants_input(view: &LiveView) -> bool
     }
 }
 
-/// How many lines were taken in a row behind something that the feed told. Once it tells that no line will come, it is the link's turn.
+/// How many lines came in a row after something that a view is told. Once it is told that no line will come, it is the link's turn.
 fn lines_behind(told: &LiveInput, lines: u32) -> u32
     requires { lines < 64 }
-    ensures { result ≤ 64 }
+    ensures { result ≡ lines_behind lines (Some told.now) }
 {
     match told {
         LiveInput::Line(_) => lines + 1,
-        _ => MOST_LINES,
+        LiveInput::Closed => MOST_LINES,
+        LiveInput::Linked => 0,
+        LiveInput::LinkFailed => 0,
+        LiveInput::Says(_) => 0,
     }
 }
 
@@ -85,7 +88,7 @@ fn turn_feed<N: Net, K: Feed, W: Sink>(
     ensures turned { Attends
         (live_tells (feed_tells K.coming K.told K.faults) (output_tells W.written W.faults W.wants) (net_tells N.coming N.over N.asked N.faults N.lent N.link_counts)
         (links_tell N.Conn.coming N.Conn.heard N.Conn.sent N.Conn.counts))
-        (λ address. live_state address view.old) (λ address. live_state address view.new) result feed.old feed.new out.old out.new link.old link.new }
+        lines AreCounted (λ address. live_state address view.old) (λ address. live_state address view.new) result feed.old feed.new out.old out.new link.old link.new }
 {
     let told = match ask(feed) {
         Ok(told) => told,
@@ -112,10 +115,10 @@ fn turn_link<N: Net, K: Feed, W: Sink>(
 ) -> Result<u32, LiveEnd>
     requires live { IsLive view.old }
     ensures live { IsLive view.new }
-    ensures turned { Attends
+    ensures turned { (lines : ℕ) → 64 ≤ lines → Attends
         (live_tells (feed_tells K.coming K.told K.faults) (output_tells W.written W.faults W.wants) (net_tells N.coming N.over N.asked N.faults N.lent N.link_counts)
         (links_tell N.Conn.coming N.Conn.heard N.Conn.sent N.Conn.counts))
-        (λ address. live_state address view.old) (λ address. live_state address view.new) result feed.old feed.new out.old out.new link.old link.new }
+        lines AreCounted (λ address. live_state address view.old) (λ address. live_state address view.new) result feed.old feed.new out.old out.new link.old link.new }
 {
     let heard = match hear(link) {
         Ok(heard) => heard,
@@ -146,7 +149,7 @@ fn turn<N: Net, K: Feed, W: Sink>(
     ensures turned { Attends
         (live_tells (feed_tells K.coming K.told K.faults) (output_tells W.written W.faults W.wants) (net_tells N.coming N.over N.asked N.faults N.lent N.link_counts)
         (links_tell N.Conn.coming N.Conn.heard N.Conn.sent N.Conn.counts))
-        (λ address. live_state address view.old) (λ address. live_state address view.new) result feed.old feed.new out.old out.new link.old link.new }
+        lines AreCounted (λ address. live_state address view.old) (λ address. live_state address view.new) result feed.old feed.new out.old out.new link.old link.new }
 {
     if lines < MOST_LINES {
         return turn_feed::<N, K, W>(view, link, feed, out, lines);
@@ -168,7 +171,7 @@ fn attend<R: Wait, N: Net, K: Feed, W: Sink>(
     ensures turned { Attends
         (live_tells (feed_tells K.coming K.told K.faults) (output_tells W.written W.faults W.wants) (net_tells N.coming N.over N.asked N.faults N.lent N.link_counts)
         (links_tell N.Conn.coming N.Conn.heard N.Conn.sent N.Conn.counts))
-        (λ address. live_state address view.old) (λ address. live_state address view.new) result feed.old feed.new out.old out.new link.old link.new }
+        0 AreAny (λ address. live_state address view.old) (λ address. live_state address view.new) result feed.old feed.new out.old out.new link.old link.new }
 {
     let mut lines = 0;
     for _ in rt.forever() {

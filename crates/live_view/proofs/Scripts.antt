@@ -1,11 +1,13 @@
 -- A live view does what the script of its lines does.
-use Rattle.std.proofs.Common.{arith, ◌≡◌, ◌≤◌, ℕ, ◌+◌, Bool, true, false, if◌then◌else◌, List, [], ◌∷◌, ◌++◌, map, Option, Some, None, refl, sym, ap, subst, ◌∙◌, append_assoc, append-nil}
+use Rattle.std.proofs.Common.{arith, ◌≡◌, ◌≤◌, ℕ, ◌+◌, ◌==◌, inl, inr, Bool, true, false, if◌then◌else◌, List, [], ◌∷◌, ◌++◌, map, Option, Some, None, refl, sym, ap, subst, ◌∙◌, append_assoc, append-nil}
 use Rattle.std.specs.Prelude.{nat_le}
+use Rattle.tea_io.specs.Links.{most_quiets}
 use Rattle.std.proofs.lemmas.Bool.Decides.{nat_tests}
 use Rattle.tea_io.specs.declared.link.Heard.{Heard}
 use Rattle.tea_io.specs.declared.link.Heard.TheVariants as heard
 use Rattle.wire_frames.specs.declared.frame.ClientFrame.{ClientFrame}
 use Rattle.wire_frames.specs.declared.frame.ClientFrame.TheVariants as client
+use Rattle.replica_plain.specs.declared.how.How.{How}
 use Rattle.replica_plain.specs.declared.how.How.TheVariants.{Fresh}
 use Rattle.replica_plain.specs.Calls.{unsent}
 use Rattle.replica_plain.specs.PlainReplica.{published_count}
@@ -13,13 +15,13 @@ use Rattle.run_steps.specs.Steps.{Step, Prints, Connects, Returns, Hears, Sends}
 use Rattle.view_script.specs.PlainLine.{PlainLine, Publish, Watch, Wait, WaitFor, Settle, Snap, Cut, Quit, Mark, Vote, Show, publish_count, most_publishes}
 use Rattle.model_value.specs.Payload.{payload_spelling}
 use Rattle.view_shell.specs.declared.ending.ViewEnd.TheVariants as ending
-use Rattle.view_shell.specs.Phases.{Viewer, Phase, Aim, Task, ToJoin, ToReach, ToSettle, ToCatchUp, ToSnap, ToSee, Receives, Begins, TellsText, Leaves, Connecting, Sending, Receiving, Printing, Leaving, PrintingLast, Returning, Over, Hearing, Walks, after_giving, after_publish, begin_task, has_caught_up, leave_session, receive, run, send_all, settle_on, show_world, time_after, vote_by, with_lines}
+use Rattle.view_shell.specs.Phases.{Viewer, Phase, Aim, Task, ToJoin, ToReach, ToSettle, ToCatchUp, ToSnap, ToSee, Receives, Begins, TellsText, Leaves, Connecting, Sending, Receiving, Printing, Leaving, PrintingLast, Returning, Over, Hearing, Walks, after_giving, after_publish, begin_task, enter_session, has_caught_up, heard_quiet, leave_session, most_receives, receive, run, send_all, settle_on, show_world, time_after, vote_by, with_lines}
 use Rattle.view_shell.specs.Viewers.{first_phase, first_viewer}
 use Rattle.live_view.specs.declared.input.LiveInput.{LiveInput}
 use Rattle.live_view.specs.declared.input.LiveInput.TheVariants as input
 use Rattle.live_view.specs.Lines.{LineRead, NoLine, Lines, Holds, lines_in, read_line}
-use Rattle.live_view.specs.Live.{LiveState, Told, arrives, awaited, drive, drives, goes_on, has_arrived, hears, holds_by, if_room, joined_as, line_at, lines_from, live_run, one_more, or_joined, sends_all, still, then_prints, then_sends, then_told, told_in, with_more}
-use Rattle.live_view.specs.Script.{IsWaiting, LiveIsScript, inputs_of, joined_lines, printed_in, read_in, sent_in}
+use Rattle.live_view.specs.Live.{LiveState, LiveTold, Told, arrives, awaited, drive, drives, goes_on, has_arrived, hears, holds_by, if_room, joined_as, line_at, lines_from, live_run, live_step, more_lines, one_more, or_joined, sends_all, still, then_prints, then_sends, then_told, told_in, waits, with_more}
+use Rattle.live_view.specs.Script.{ComeBeforeFrames, IsBeforeFrames, IsWaiting, LiveIsScript, inputs_of, joined_lines, printed_in, read_in, sent_in}
 
 -- ---- the lines that are left, along a phase
 
@@ -264,49 +266,240 @@ lines_are NoLine lines is = absurd cc
 lines_are (Lines some) lines is = ap Lines (same_some some lines is)
 lines_are (Holds count) lines is = absurd cc
 
--- a view before the end of its lines, so many of which came
+-- ---- a view that heard no frame yet
+
+-- no line has ended yet, so many came
 abbrev before : ℕ → Phase → LiveState
 before count phase = record { phase = phase; closed = false; count = count; holds = 0; joined = None; lost = false }
 
--- what is told once a line came, and did this
-abbrev line_told : ℕ → Told → List LiveInput → Told
-line_told count t inputs =
-    let first = arrives t (before count t.phase) in
-    then_told (told_in first) (live_run first.state inputs)
+-- it published nothing, and there is room for so many events
+abbrev HasRoomFor : ℕ → Phase → Type 0
+HasRoomFor events (Connecting v how) = (published_count v.replica ≡ 0) × (publish_count v.lines + events ≤ most_publishes)
+HasRoomFor events (Receiving v (ToJoin how)) = (published_count v.replica ≡ 0) × (publish_count v.lines + events ≤ most_publishes)
+HasRoomFor events (Over end) = Unit {0}
+HasRoomFor events phase = ⊥
+
+-- what a link tells it leads to this
+abbrev early : Phase → LiveInput → Told
+early (Connecting v how) input.Linked = drives false (enter_session v how)
+early (Receiving v aim) (input.Says what) = drives false (hears v aim what)
+early phase told = waits phase
+
+-- So it is too behind the end of the lines, where more of them are left.
+record Early (events : ℕ) (more : List PlainLine) (phase : Phase) (told : LiveInput) : Type 0 where
+  step : (count : ℕ) → live_step (before count phase) told ≡ record { frames = (early phase told).frames; text = (early phase told).text; here = false; state = before count (early phase told).phase }
+  closed : (count : ℕ) → live_step (state_at count None (more_lines phase more)) told ≡ record { frames = (early phase told).frames; text = (early phase told).text; here = false; state = state_at count None (more_lines (early phase told).phase more) }
+  room : HasRoomFor events (early phase told).phase
+
+-- a quiet link: it may have been quiet too often, and the view may say that it is alive
+abbrev quiet_by : Bool → Bool → Viewer → How → Phase
+quiet_by often due v how = if often then Over ending.Ended else send_all v ((if due then client.Alive ∷ [] else []) ++ []) (Receives (ToJoin how))
+
+abbrev quiet_told : Bool → Phase → ℕ → Phase → LiveTold
+quiet_told closed phase count next =
+    let t = drives closed next in
+    arrives t (record { phase = t.phase; closed = closed; count = count; holds = 0; joined = None; lost = false })
+
+quiet_steps : (often due : Bool) (v : Viewer) (how : How) (count : ℕ) (phase : Phase)
+    → quiet_told false phase count (quiet_by often due v how)
+    ≡ record { frames = (drives false (quiet_by often due v how)).frames; text = (drives false (quiet_by often due v how)).text; here = false; state = before count (drives false (quiet_by often due v how)).phase }
+quiet_steps true due v how count phase = refl
+quiet_steps false true v how count phase = refl
+quiet_steps false false v how count phase = refl
+
+quiet_closed : (often due : Bool) (more : List PlainLine) (v : Viewer) (how : How) (count : ℕ) (phase : Phase)
+    → quiet_told true phase count (quiet_by often due (with_more v more) how)
+    ≡ record { frames = (drives false (quiet_by often due v how)).frames; text = (drives false (quiet_by often due v how)).text; here = false; state = state_at count None (more_lines (drives false (quiet_by often due v how)).phase more) }
+quiet_closed true due more v how count phase = refl
+quiet_closed false true more v how count phase = refl
+quiet_closed false false more v how count phase = refl
+
+quiet_room : (often due : Bool) (events : ℕ) (v : Viewer) (how : How) → HasRoomFor events (Receiving v (ToJoin how)) → HasRoomFor events (drives false (quiet_by often due v how)).phase
+quiet_room true due events v how room = tt
+quiet_room false true events v how room = room
+quiet_room false false events v how room = room
+
+early_is : (events : ℕ) (more : List PlainLine) (phase : Phase) (told : LiveInput) → HasRoomFor events phase → IsBeforeFrames told → Early events more phase told
+early_is events more (Connecting v how) input.Linked room is = record { step = λ count. refl; closed = λ count. refl; room = room }
+early_is events more (Connecting v how) (input.Says heard.Quiet) room is = record { step = λ count. refl; closed = λ count. refl; room = room }
+early_is events more (Connecting v how) (input.Says heard.End) room is = record { step = λ count. refl; closed = λ count. refl; room = room }
+early_is events more (Receiving v (ToJoin how)) input.Linked room is = record { step = λ count. refl; closed = λ count. refl; room = room }
+early_is events more (Receiving v (ToJoin how)) (input.Says heard.Quiet) room is =
+    let w = heard_quiet v in
+    let often = w.quiets == most_quiets in
+    let due = w.receives == most_receives in
+    record {
+      step = λ count. quiet_steps often due w how count (Receiving v (ToJoin how));
+      closed = λ count. quiet_closed often due more w how count (Receiving v (ToJoin how));
+      room = quiet_room often due events w how room;
+    }
+early_is events more (Receiving v (ToJoin how)) (input.Says heard.End) room is = record { step = λ count. refl; closed = λ count. refl; room = tt }
+early_is events more (Over end) input.Linked room is = record { step = λ count. refl; closed = λ count. refl; room = tt }
+early_is events more (Over end) (input.Says heard.Quiet) room is = record { step = λ count. refl; closed = λ count. refl; room = tt }
+early_is events more (Over end) (input.Says heard.End) room is = record { step = λ count. refl; closed = λ count. refl; room = tt }
+early_is events more (Receiving v (ToReach time)) told room is = absurd room
+early_is events more (Receiving v ToSettle) told room is = absurd room
+early_is events more (Receiving v ToCatchUp) told room is = absurd room
+early_is events more (Receiving v ToSnap) told room is = absurd room
+early_is events more (Receiving v (ToSee at)) told room is = absurd room
+early_is events more (Sending v frame frames task) told room is = absurd room
+early_is events more (Printing v text) told room is = absurd room
+early_is events more (Leaving v text) told room is = absurd room
+early_is events more (PrintingLast text) told room is = absurd room
+early_is events more (Returning v how) told room is = absurd room
+early_is events more phase told room is = absurd is
+
+-- ---- its lines
 
 -- what is told once a line came, and said this
-abbrev said_told : ℕ → Viewer → Phase → List LiveInput → LineRead → Told
-said_told count v phase inputs read =
+abbrev said : ℕ → Viewer → Phase → LineRead → LiveTold
+said count v phase read =
     let t = line_at count (Some v) phase read in
-    let first = arrives t (record { phase = t.phase; closed = false; count = count; holds = holds_by false (Some v) read 0; joined = None; lost = false }) in
-    then_told (told_in first) (live_run first.state inputs)
+    arrives t (record { phase = t.phase; closed = false; count = count; holds = holds_by false (Some v) read 0; joined = None; lost = false })
+
+-- and did this
+abbrev line_told : ℕ → Told → LiveTold
+line_told count t = arrives t (before count t.phase)
+
+abbrev lines_more : ℕ → Phase → List PlainLine → LiveTold
+lines_more count phase more = record { frames = []; text = []; here = false; state = before count (more_lines phase more) }
+
+line_steps : (count : ℕ) (text : List ℕ) (phase : Phase) (first more script : List PlainLine) → lines_in (read_line text) ≡ Some first → first ++ more ≡ script → HasRoomFor (publish_count script) phase
+    → live_step (before count phase) (input.Line text) ≡ lines_more (one_more count) phase first
+line_steps count text (Connecting v how) first more script read both (none, few) =
+    let counts = few_with (published_count v.replica) (publish_count v.lines) (publish_count first) (publish_count more) (publish_count script) none (sym (ap publish_count both) ∙ count_both first more) few in
+    ap (said (one_more count) v (Connecting v how)) (lines_are (read_line text) first read) ∙ ap (λ (b : Bool). line_told (one_more count) (if_room b (one_more count) (Connecting v how) first)) (fits_room _ counts)
+line_steps count text (Receiving v (ToJoin how)) first more script read both (none, few) =
+    let counts = few_with (published_count v.replica) (publish_count v.lines) (publish_count first) (publish_count more) (publish_count script) none (sym (ap publish_count both) ∙ count_both first more) few in
+    ap (said (one_more count) v (Receiving v (ToJoin how))) (lines_are (read_line text) first read) ∙ ap (λ (b : Bool). line_told (one_more count) (if_room b (one_more count) (Receiving v (ToJoin how)) first)) (fits_room _ counts)
+line_steps count text (Over end) first more script read both room = refl
+line_steps count text (Receiving v (ToReach time)) first more script read both room = absurd room
+line_steps count text (Receiving v ToSettle) first more script read both room = absurd room
+line_steps count text (Receiving v ToCatchUp) first more script read both room = absurd room
+line_steps count text (Receiving v ToSnap) first more script read both room = absurd room
+line_steps count text (Receiving v (ToSee at)) first more script read both room = absurd room
+line_steps count text (Sending v frame frames task) first more script read both room = absurd room
+line_steps count text (Printing v piece) first more script read both room = absurd room
+line_steps count text (Leaving v piece) first more script read both room = absurd room
+line_steps count text (PrintingLast piece) first more script read both room = absurd room
+line_steps count text (Returning v how) first more script read both room = absurd room
+
+-- room for the lines that are still to come
+room_then : (phase : Phase) (first more script : List PlainLine) → first ++ more ≡ script → HasRoomFor (publish_count script) phase → HasRoomFor (publish_count more) (more_lines phase first)
+room_then (Connecting v how) first more script both (none, few) = (none, few_then v.lines first more script both few)
+room_then (Receiving v (ToJoin how)) first more script both (none, few) = (none, few_then v.lines first more script both few)
+room_then (Over end) first more script both room = tt
+room_then (Receiving v (ToReach time)) first more script both room = absurd room
+room_then (Receiving v ToSettle) first more script both room = absurd room
+room_then (Receiving v ToCatchUp) first more script both room = absurd room
+room_then (Receiving v ToSnap) first more script both room = absurd room
+room_then (Receiving v (ToSee at)) first more script both room = absurd room
+room_then (Sending v frame frames task) first more script both room = absurd room
+room_then (Printing v piece) first more script both room = absurd room
+room_then (Leaving v piece) first more script both room = absurd room
+room_then (PrintingLast piece) first more script both room = absurd room
+room_then (Returning v how) first more script both room = absurd room
+
+-- lines come, and then more
+more_again : (phase : Phase) (first more script : List PlainLine) → first ++ more ≡ script → more_lines (more_lines phase first) more ≡ more_lines phase script
+more_again (Connecting v how) first more script both = ap (λ (l : List PlainLine). Connecting (with_lines v l) how) (append_assoc v.lines first more ∙ ap (λ (l : List PlainLine). v.lines ++ l) both)
+more_again (Receiving v aim) first more script both = ap (λ (l : List PlainLine). Receiving (with_lines v l) aim) (append_assoc v.lines first more ∙ ap (λ (l : List PlainLine). v.lines ++ l) both)
+more_again (Over end) first more script both = refl
+more_again (Sending v frame frames task) first more script both = refl
+more_again (Printing v piece) first more script both = refl
+more_again (Leaving v piece) first more script both = refl
+more_again (PrintingLast piece) first more script both = refl
+more_again (Returning v how) first more script both = refl
+
+-- no line more comes
+none_more : (phase : Phase) → phase ≡ more_lines phase []
+none_more (Connecting v how) = ap (λ (l : List PlainLine). Connecting (with_lines v l) how) (sym (append-nil v.lines))
+none_more (Receiving v aim) = ap (λ (l : List PlainLine). Receiving (with_lines v l) aim) (sym (append-nil v.lines))
+none_more (Over end) = refl
+none_more (Sending v frame frames task) = refl
+none_more (Printing v piece) = refl
+none_more (Leaving v piece) = refl
+none_more (PrintingLast piece) = refl
+none_more (Returning v how) = refl
+
+-- the end of the lines cuts nothing short
+closed_steps : (count events : ℕ) (phase : Phase) → HasRoomFor events phase → live_step (before count phase) input.Closed ≡ record { frames = []; text = []; here = false; state = state_at count None phase }
+closed_steps count events (Connecting v how) room = refl
+closed_steps count events (Receiving v (ToJoin how)) room = refl
+closed_steps count events (Over end) room = refl
+closed_steps count events (Receiving v (ToReach time)) room = absurd room
+closed_steps count events (Receiving v ToSettle) room = absurd room
+closed_steps count events (Receiving v ToCatchUp) room = absurd room
+closed_steps count events (Receiving v ToSnap) room = absurd room
+closed_steps count events (Receiving v (ToSee at)) room = absurd room
+closed_steps count events (Sending v frame frames task) room = absurd room
+closed_steps count events (Printing v piece) room = absurd room
+closed_steps count events (Leaving v piece) room = absurd room
+closed_steps count events (PrintingLast piece) room = absurd room
+closed_steps count events (Returning v how) room = absurd room
 
 abbrev counted : ℕ → List (List ℕ) → ℕ
 counted count [] = count
 counted count (text ∷ texts) = counted (one_more count) texts
 
-lines_first : (count : ℕ) (texts : List (List ℕ)) (v : Viewer) (script : List PlainLine) (inputs : List LiveInput)
-    → read_in texts ≡ Some script → published_count v.replica ≡ 0 → publish_count v.lines + publish_count script ≤ most_publishes
-    → live_run (before count (Connecting v Fresh)) (map input.Line texts ++ input.Closed ∷ inputs) ≡ live_run (state_at (counted count texts) None (Connecting (with_more v script) Fresh)) inputs
-lines_first count [] v script inputs read none few =
-    ap (λ (l : List PlainLine). live_run (state_at count None (Connecting (with_lines v l) Fresh)) inputs) (sym (append-nil v.lines))
-    ∙ ap (λ (l : List PlainLine). live_run (state_at count None (Connecting (with_more v l) Fresh)) inputs) (same_some [] script read)
-lines_first count (text ∷ texts) v script inputs read none few =
+-- what is told first, and then the rest
+abbrev run_on : LiveTold → List LiveInput → Told
+run_on first inputs = then_told (told_in first) (live_run first.state inputs)
+
+-- the lines that are to come, and their end
+abbrev to_come : List (List ℕ) → List LiveInput
+to_come texts = map input.Line texts ++ input.Closed ∷ []
+
+-- told what a link tells before its frames
+link_first : (count after : ℕ) (phase : Phase) (script : List PlainLine) (told : LiveInput) (inputs rest : List LiveInput) → Early (publish_count script) script phase told
+    → live_run (before count (early phase told).phase) inputs ≡ live_run (state_at after None (more_lines (early phase told).phase script)) rest
+    → live_run (before count phase) (told ∷ inputs) ≡ live_run (state_at after None (more_lines phase script)) (told ∷ rest)
+link_first count after phase script told inputs rest e on =
+    ap (λ (first : LiveTold). run_on first inputs) (e.step count) ∙ ap (then_told (early phase told)) on ∙ ap (λ (first : LiveTold). run_on first rest) (sym (e.closed after))
+
+-- told a line
+line_first : (count after : ℕ) (text : List ℕ) (phase : Phase) (script : List PlainLine) (told : LiveInput) (inputs links : List LiveInput) (rest : Option (List PlainLine)) (j : Joined (lines_in (read_line text)) rest script)
+    → HasRoomFor (publish_count script) phase → told ≡ input.Line text
+    → live_run (before (one_more count) (more_lines phase j.first)) inputs ≡ live_run (state_at after None (more_lines (more_lines phase j.first) j.more)) links
+    → live_run (before count phase) (told ∷ inputs) ≡ live_run (state_at after None (more_lines phase script)) links
+line_first count after text phase script told inputs links rest j room is on =
+    ap (λ (i : LiveInput). live_run (before count phase) (i ∷ inputs)) is
+    ∙ ap (λ (first : LiveTold). run_on first inputs) (line_steps count text phase j.first j.more script j.read_as j.both room)
+    ∙ on ∙ ap (λ (p : Phase). live_run (state_at after None p) links) (more_again phase j.first j.more script j.both)
+
+-- told that no line will come
+end_first : (count : ℕ) (phase : Phase) (script : List PlainLine) (told : LiveInput) (inputs links : List LiveInput) → HasRoomFor (publish_count script) phase → told ≡ input.Closed → inputs ≡ links → read_in [] ≡ Some script
+    → live_run (before count phase) (told ∷ inputs) ≡ live_run (state_at count None (more_lines phase script)) links
+end_first count phase script told inputs links room is same read =
+    ap (λ (i : LiveInput). live_run (before count phase) (i ∷ inputs)) is
+    ∙ ap (λ (first : LiveTold). run_on first inputs) (closed_steps count (publish_count script) phase room)
+    ∙ ap (λ (more : List LiveInput). live_run (state_at count None phase) more) same
+    ∙ ap (λ (p : Phase). live_run (state_at count None p) links) (none_more phase)
+    ∙ ap (λ (l : List PlainLine). live_run (state_at count None (more_lines phase l)) links) (same_some [] script read)
+
+lines_before : (count : ℕ) (texts : List (List ℕ)) (phase : Phase) (script : List PlainLine) (links inputs : List LiveInput)
+    → read_in texts ≡ Some script → HasRoomFor (publish_count script) phase → ComeBeforeFrames (to_come texts) links inputs
+    → live_run (before count phase) inputs ≡ live_run (state_at (counted count texts) None (more_lines phase script)) links
+lines_before count [] phase script links [] read room meets = absurd meets
+lines_before count [] phase script links (told ∷ inputs) read room (inl (is, meets)) = end_first count phase script told inputs links room is meets read
+lines_before count [] phase script links (told ∷ inputs) read room (inr (rest, is, early_told, meets)) =
+    let e = early_is (publish_count script) script phase told room early_told in
+    link_first count count phase script told inputs rest e (lines_before count [] (early phase told).phase script rest inputs read e.room meets)
+    ∙ ap (live_run (state_at count None (more_lines phase script))) (sym is)
+lines_before count (text ∷ texts) phase script links [] read room meets = absurd meets
+lines_before count (text ∷ texts) phase script links (told ∷ inputs) read room (inl (is, meets)) =
     let j = joined_of (lines_in (read_line text)) (read_in texts) script read in
-    let tail = map input.Line texts ++ input.Closed ∷ inputs in
-    let at = Connecting v Fresh in
-    let w = with_more v j.first in
-    let n = one_more count in
-    let counts = few_with (published_count v.replica) (publish_count v.lines) (publish_count j.first) (publish_count j.more) (publish_count script) none (sym (ap publish_count j.both) ∙ count_both j.first j.more) few in
-    ap (said_told n v at tail) (lines_are (read_line text) j.first j.read_as)
-    ∙ ap (λ (b : Bool). line_told n (if_room b n at j.first) tail) (fits_room _ counts)
-    ∙ lines_first n texts w j.more inputs j.rest_as none (few_then v.lines j.first j.more script j.both few)
-    ∙ ap (λ (l : List PlainLine). live_run (state_at (counted n texts) None (Connecting (with_lines v l) Fresh)) inputs) (append_assoc v.lines j.first j.more ∙ ap (λ (l : List PlainLine). v.lines ++ l) j.both)
+    line_first count (counted (one_more count) texts) text phase script told inputs links (read_in texts) j room is
+    (lines_before (one_more count) texts (more_lines phase j.first) j.more links inputs j.rest_as (room_then phase j.first j.more script j.both room) meets)
+lines_before count (text ∷ texts) phase script links (told ∷ inputs) read room (inr (rest, is, early_told, meets)) =
+    let e = early_is (publish_count script) script phase told room early_told in
+    link_first count (counted count (text ∷ texts)) phase script told inputs rest e (lines_before count (text ∷ texts) (early phase told).phase script rest inputs read e.room meets)
+    ∙ ap (live_run (state_at (counted count (text ∷ texts)) None (more_lines phase script))) (sym is)
 
 -- ---- the law
 
 pub live_is_script : LiveIsScript
-live_is_script founding id view address texts script steps last read few walks waiting =
+live_is_script founding id view address texts script steps last inputs read few walks waiting meets =
     let v = first_viewer founding id view address [] in
-    lines_first 0 texts v script (inputs_of steps) read refl (omega (arith, few))
+    lines_before 0 texts (Connecting v Fresh) script (inputs_of steps) inputs read (refl, omega (arith, few)) meets
     ∙ walk_told (counted 0 texts) None (first_phase founding id view address script) last steps walks waiting

@@ -1,5 +1,6 @@
 -- A live view and the script of its lines.
-use Rattle.std.specs.Prelude.{◌≡◌, ◌≤◌, ℕ, false, List, [], ◌∷◌, ◌++◌, map, Option, Some, None}
+use Rattle.std.specs.Prelude.{◌≡◌, ◌≤◌, ◌⊎◌, ℕ, false, List, [], ◌∷◌, ◌++◌, map, Option, Some, None}
+use Rattle.tea_io.specs.declared.link.Heard.TheVariants as heard
 use Rattle.model_solved.specs.Founding.{Founding}
 use Rattle.run_steps.specs.Steps.{Step, Prints, Connects, Hears, Sends}
 use Rattle.view_script.specs.PlainLine.{PlainLine, publish_count, most_publishes}
@@ -48,12 +49,28 @@ abbrev pub read_in : List (List ℕ) → Option (List PlainLine)
 read_in [] = Some []
 read_in (text ∷ more) = joined_lines (lines_in (read_line text)) (read_in more)
 
--- The lines come first, and then their end; and then the view is told what the links of a script of these lines tell. What it sends
--- and prints is what that script sends and prints, wherever it waits or ends. The lines `here` are apart.
+-- what a link tells before its first frame
+abbrev pub IsBeforeFrames : LiveInput → Type 0
+IsBeforeFrames input.Linked = Unit {0}
+IsBeforeFrames (input.Says heard.Quiet) = Unit {0}
+IsBeforeFrames (input.Says heard.End) = Unit {0}
+IsBeforeFrames told = ⊥
+
+-- These lines come, and their end, before the first frame of all that the links tell. `inputs` is both, in the order in which the view is told.
+abbrev pub ComeBeforeFrames : List LiveInput → List LiveInput → List LiveInput → Type 0
+ComeBeforeFrames [] links inputs = inputs ≡ links
+ComeBeforeFrames (line ∷ lines) links [] = ⊥
+ComeBeforeFrames (line ∷ lines) links (told ∷ inputs) =
+    ((told ≡ line) × ComeBeforeFrames lines links inputs)
+    ⊎ ((rest : List LiveInput) × (links ≡ told ∷ rest) × IsBeforeFrames told × ComeBeforeFrames (line ∷ lines) rest inputs)
+
+-- The lines come before the first frame, and then their end: before a link is there, or after it is, as in a run. Besides, the view is told what
+-- the links of a script of these lines tell. What it sends and prints is what that script sends and prints, wherever it waits or ends. The lines
+-- `here` are apart.
 abbrev pub LiveIsScript : Type 0
 LiveIsScript =
-    (founding : Founding) (id : List ℕ) (view : ℕ) (address : List ℕ) (texts : List (List ℕ)) (script : List PlainLine) (steps : List Step) (last : Phase)
+    (founding : Founding) (id : List ℕ) (view : ℕ) (address : List ℕ) (texts : List (List ℕ)) (script : List PlainLine) (steps : List Step) (last : Phase) (inputs : List LiveInput)
     → read_in texts ≡ Some script → publish_count script ≤ most_publishes
     → Walks (first_phase founding id view address script) steps last → IsWaiting last
-    → live_run (first_state founding id view address) (map input.Line texts ++ input.Closed ∷ inputs_of steps)
-    ≡ record { frames = sent_in steps; text = printed_in steps; phase = last }
+    → ComeBeforeFrames (map input.Line texts ++ input.Closed ∷ []) (inputs_of steps) inputs
+    → live_run (first_state founding id view address) inputs ≡ record { frames = sent_in steps; text = printed_in steps; phase = last }

@@ -49,7 +49,7 @@ fn place_of(held: &[Held], id: &SessionId) -> Option<usize>
 }
 
 impl Hub {
-    ghost use Rattle.std.specs.Prelude.{[]};
+    ghost use Rattle.std.specs.Prelude.{[], slice_get};
 
     /// A hub without sessions. Takes no memory.
     pub fn new(alloc: Global) -> Hub
@@ -111,5 +111,15 @@ impl Hub {
     {
         let place = place_of(&self.held, id)?;
         Some(&self.held[place].session)
+    }
+
+    /// The session before which so many were made, if it was made. Takes no memory.
+    pub fn made(&self, place: u32) -> Option<&Session>
+        ensures { option_map (λ (s : Bor SessionState). s.now.plain) result ≡ option_map (λ held. held.session) (slice_get self.now place) }
+    {
+        match self.held.get(place as usize) {
+            Some(held) => Some(&held.session),
+            None => None,
+        }
     }
 }

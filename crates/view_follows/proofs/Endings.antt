@@ -75,7 +75,7 @@ module _ (m : RealWorlds) (r : RealReplica) where
 
 -- ---- how a view goes on, where it has only such ends
 
-module _ (P : ViewEnd → Type 0) (done : P ending.Done) (peer : P ending.Peer) (want : P ending.WantOfMemory) where
+module _ (P : ViewEnd → Type 0) (done : P ending.Done) (want : P ending.WantOfMemory) where
   -- its link was quiet so often in a row, and if it is over it has such an end
   abbrev pub Keeps : Phase → ℕ → Type 0
   Keeps (Connecting v how) quiets = Unit {0}
@@ -87,7 +87,7 @@ module _ (P : ViewEnd → Type 0) (done : P ending.Done) (peer : P ending.Peer) 
   Keeps (Returning v how) quiets = Unit {0}
   Keeps (Over end) quiets = P end
 
-  either_keeps : (test : Bool) (p q : Phase) (quiets : ℕ) → (test ≡ true → Keeps p quiets) → Keeps q quiets → Keeps (cond test p q) quiets
+  pub either_keeps : (test : Bool) (p q : Phase) (quiets : ℕ) → (test ≡ true → Keeps p quiets) → Keeps q quiets → Keeps (cond test p q) quiets
   either_keeps true p q quiets first second = first refl
   either_keeps false p q quiets first second = second
 
@@ -103,7 +103,7 @@ module _ (P : ViewEnd → Type 0) (done : P ending.Done) (peer : P ending.Peer) 
   receive_keeps v ToSnap quiets is = is
   receive_keeps v (ToSee at) quiets is = is
 
-  begin_keeps : (v : Viewer) (task : Task) (quiets : ℕ) → v.quiets ≡ quiets → Keeps (begin_task v task) quiets
+  pub begin_keeps : (v : Viewer) (task : Task) (quiets : ℕ) → v.quiets ≡ quiets → Keeps (begin_task v task) quiets
   begin_keeps v (Receives aim) quiets is = receive_keeps v aim quiets is
   begin_keeps v Begins quiets is = is
   begin_keeps v (TellsText text) quiets is = is
@@ -113,7 +113,7 @@ module _ (P : ViewEnd → Type 0) (done : P ending.Done) (peer : P ending.Peer) 
   send_keeps v [] task quiets is = begin_keeps v task quiets is
   send_keeps v (frame ∷ frames) task quiets is = is
 
-  leave_keeps : (v : Viewer) (quiets : ℕ) → v.quiets ≡ quiets → Keeps (leave_session v) quiets
+  pub leave_keeps : (v : Viewer) (quiets : ℕ) → v.quiets ≡ quiets → Keeps (leave_session v) quiets
   unfolding leave_session
   leave_keeps v quiets is = is
 
@@ -125,7 +125,7 @@ module _ (P : ViewEnd → Type 0) (done : P ending.Done) (peer : P ending.Peer) 
   unfolding show_world
   show_keeps v quiets is = is
 
-  run_keeps : (v : Viewer) (lines : List PlainLine) (quiets : ℕ) → v.quiets ≡ quiets → Keeps (run v lines) quiets
+  pub run_keeps : (v : Viewer) (lines : List PlainLine) (quiets : ℕ) → v.quiets ≡ quiets → Keeps (run v lines) quiets
   run_keeps v [] quiets is = leave_keeps v quiets is
   run_keeps v (Publish scope event value ∷ rest) quiets is =
       let w = after_publish (with_lines v rest) (payload_spelling (record { scope = scope; event = event; value = value })) in
@@ -164,52 +164,56 @@ module _ (P : ViewEnd → Type 0) (done : P ending.Done) (peer : P ending.Peer) 
   frame_keeps v (ToSee at) frame quiets is = entry_keeps (nat_le at v.replica.seen) v at quiets is
   frame_keeps v ToCatchUp frame quiets is = go_on_keeps v [] (Receives ToCatchUp) quiets is
 
-  base_keeps : (v : Viewer) (aim : Aim) (quiets : ℕ) → Keeps (bad_base v aim) quiets
-  base_keeps v (ToJoin Fresh) quiets = tt
-  base_keeps v (ToJoin Whole) quiets = peer
-  base_keeps v (ToJoin Resume) quiets = peer
-  base_keeps v (ToReach time) quiets = peer
-  base_keeps v ToSettle quiets = peer
-  base_keeps v ToCatchUp quiets = peer
-  base_keeps v ToSnap quiets = peer
-  base_keeps v (ToSee at) quiets = peer
+  base_keeps : (v : Viewer) (aim : Aim) (quiets : ℕ) → P ending.Peer → Keeps (bad_base v aim) quiets
+  base_keeps v (ToJoin Fresh) quiets may = tt
+  base_keeps v (ToJoin Whole) quiets may = may
+  base_keeps v (ToJoin Resume) quiets may = may
+  base_keeps v (ToReach time) quiets may = may
+  base_keeps v ToSettle quiets may = may
+  base_keeps v ToCatchUp quiets may = may
+  base_keeps v ToSnap quiets may = may
+  base_keeps v (ToSee at) quiets may = may
 
-  -- this fault is no refusal, or may end a view
-  abbrev MayRefuse : Option ReplicaFault → Type 0
+  -- this fault ends no view, or may end one
+  abbrev pub MayRefuse : Option ReplicaFault → Type 0
   MayRefuse (Some (fault.Refused about code kept)) = P (ending.Refused code kept)
+  MayRefuse (Some fault.BadBase) = P ending.Peer
+  MayRefuse (Some fault.Unasked) = P ending.Peer
+  MayRefuse (Some (fault.OutOfOrder expected found)) = P ending.Peer
+  MayRefuse (Some (fault.Back time)) = P ending.Peer
   MayRefuse found = Unit {0}
 
   behind_keeps : (v : Viewer) (aim : Aim) (frame : ServerFrame) (found : Option ReplicaFault) (quiets : ℕ) → v.quiets ≡ quiets → MayRefuse found → Keeps (phase_behind_frame v aim frame found) quiets
   behind_keeps v aim frame None quiets is may = frame_keeps v aim frame quiets is
   behind_keeps v aim frame (Some (fault.Refused about code kept)) quiets is may = may
-  behind_keeps v aim frame (Some fault.BadBase) quiets is may = base_keeps v aim quiets
-  behind_keeps v aim frame (Some fault.Unasked) quiets is may = peer
-  behind_keeps v aim frame (Some (fault.OutOfOrder expected found)) quiets is may = peer
-  behind_keeps v aim frame (Some (fault.Back time)) quiets is may = peer
+  behind_keeps v aim frame (Some fault.BadBase) quiets is may = base_keeps v aim quiets may
+  behind_keeps v aim frame (Some fault.Unasked) quiets is may = may
+  behind_keeps v aim frame (Some (fault.OutOfOrder expected found)) quiets is may = may
+  behind_keeps v aim frame (Some (fault.Back time)) quiets is may = may
   behind_keeps v aim frame (Some fault.Broken) quiets is may = want
   behind_keeps v aim frame (Some fault.WantOfMemory) quiets is may = want
 
-  abbrev MayRead : Viewer → Option ServerFrame → Type 0
-  MayRead v None = Unit {0}
+  abbrev pub MayRead : Viewer → Option ServerFrame → Type 0
+  MayRead v None = P ending.Peer
   MayRead v (Some frame) = MayRefuse (taken v.worlds v.replica frame).fault
 
   reads_keeps : (v : Viewer) (aim : Aim) (found : Option ServerFrame) (quiets : ℕ) → v.quiets ≡ quiets → MayRead v found → Keeps (reads v aim found) quiets
-  reads_keeps v aim None quiets is may = peer
+  reads_keeps v aim None quiets is may = may
   reads_keeps v aim (Some frame) quiets is may = let t = taken v.worlds v.replica frame in behind_keeps (with_taken v t) aim frame t.fault quiets is may
 
   -- what is heard may not end a view so, or that may be
-  abbrev MayHear : Viewer → Heard → Type 0
+  abbrev pub MayHear : Viewer → Heard → Type 0
   MayHear v (said.Frame bytes) = MayRead v (whole server_at bytes)
   MayHear v said.Quiet = v.quiets + 1 ≡ most_quiets → P ending.Ended
   MayHear v said.End = P ending.Ended
   MayHear v what = Unit {0}
 
   -- how often a link was quiet then
-  abbrev quiets_behind : ℕ → Heard → ℕ
+  abbrev pub quiets_behind : ℕ → Heard → ℕ
   quiets_behind quiets said.Quiet = quiets + 1
   quiets_behind quiets what = 0
 
-  hearing_keeps : (v : Viewer) (aim : Aim) (what : Heard) (next : Phase) (quiets : ℕ) → v.quiets ≡ quiets → MayHear v what → Hearing v aim what next → Keeps next (quiets_behind quiets what)
+  pub hearing_keeps : (v : Viewer) (aim : Aim) (what : Heard) (next : Phase) (quiets : ℕ) → v.quiets ≡ quiets → MayHear v what → Hearing v aim what next → Keeps next (quiets_behind quiets what)
   hearing_keeps v aim (said.Frame bytes) next quiets is may moves = subst (λ (p : Phase). Keeps p 0) (sym moves) (reads_keeps (heard_frame v) aim (whole server_at bytes) 0 refl may)
   hearing_keeps v aim said.Quiet next quiets is may moves =
       subst (λ (p : Phase). Keeps p (quiets + 1)) (sym moves)
@@ -241,7 +245,7 @@ module _ (P : ViewEnd → Type 0) (done : P ending.Done) (peer : P ending.Peer) 
   move_keeps (Returning v how) Returns next quiets is may moves = next_keeps next (Connecting v how) quiets moves tt
   move_keeps from step next quiets is may never = absurd never
 
-  over_keeps : (end : ViewEnd) (from : Phase) (quiets : ℕ) → Keeps from quiets → from ≡ Over end → P end
+  pub over_keeps : (end : ViewEnd) (from : Phase) (quiets : ℕ) → Keeps from quiets → from ≡ Over end → P end
   over_keeps end from quiets keeps is = subst (λ (p : Phase). Keeps p quiets) is keeps
 
 -- ---- the end of a link
@@ -250,27 +254,27 @@ abbrev pub IsNotEnded : ViewEnd → Type 0
 IsNotEnded ending.Ended = ⊥
 IsNotEnded end = Unit {0}
 
-refusal_ends : (found : Option ReplicaFault) → MayRefuse IsNotEnded tt tt tt found
+refusal_ends : (found : Option ReplicaFault) → MayRefuse IsNotEnded tt tt found
 refusal_ends None = tt
 refusal_ends (Some (fault.Refused about code kept)) = tt
 refusal_ends (Some other) = tt
 
-read_ends : (v : Viewer) (found : Option ServerFrame) → MayRead IsNotEnded tt tt tt v found
+read_ends : (v : Viewer) (found : Option ServerFrame) → MayRead IsNotEnded tt tt v found
 read_ends v None = tt
 read_ends v (Some frame) = refusal_ends (taken v.worlds v.replica frame).fault
 
-may_hear : (v : Viewer) (aim : Aim) (what : Heard) (steps : List Step) (quiets : ℕ) → v.quiets ≡ quiets → GoOn quiets (Hears what ∷ steps) → MayHear IsNotEnded tt tt tt v what
+pub may_hear : (v : Viewer) (aim : Aim) (what : Heard) (steps : List Step) (quiets : ℕ) → v.quiets ≡ quiets → GoOn quiets (Hears what ∷ steps) → MayHear IsNotEnded tt tt v what
 may_hear v aim (said.Frame bytes) steps quiets is goes = read_ends v (whole server_at bytes)
 may_hear v aim said.Quiet steps quiets is goes = λ most. let few = goes.0 in absurd (omega (arith, is, most, few))
 may_hear v aim said.End steps quiets is goes = goes
 may_hear v aim said.Failed steps quiets is goes = tt
 may_hear v aim said.WantOfMemory steps quiets is goes = tt
 
-may_go_on : (from : Phase) (step : Step) (steps : List Step) (quiets : ℕ) → Keeps IsNotEnded tt tt tt from quiets → GoOn quiets (step ∷ steps) → MayStep IsNotEnded tt tt tt from step
+may_go_on : (from : Phase) (step : Step) (steps : List Step) (quiets : ℕ) → Keeps IsNotEnded tt tt from quiets → GoOn quiets (step ∷ steps) → MayStep IsNotEnded tt tt from step
 may_go_on (Receiving v aim) (Hears what) steps quiets is goes = may_hear v aim what steps quiets is goes
 may_go_on from step steps quiets is goes = tt
 
-others_go_on : (step : Step) (steps : List Step) (quiets : ℕ) → GoOn quiets (step ∷ steps) → GoOn (quiets_then IsNotEnded tt tt tt quiets step) steps
+others_go_on : (step : Step) (steps : List Step) (quiets : ℕ) → GoOn quiets (step ∷ steps) → GoOn (quiets_then IsNotEnded tt tt quiets step) steps
 others_go_on (Hears said.Quiet) steps quiets goes = goes.1
 others_go_on (Hears said.End) steps quiets goes = absurd goes
 others_go_on (Hears (said.Frame bytes)) steps quiets goes = goes
@@ -279,10 +283,10 @@ others_go_on (Hears said.WantOfMemory) steps quiets goes = goes
 others_go_on (Connects address) steps quiets goes = goes
 others_go_on step steps quiets goes = goes
 
-pub never_ends : (from : Phase) (steps : List Step) (quiets : ℕ) → Keeps IsNotEnded tt tt tt from quiets → GoOn quiets steps → Walks from steps (Over ending.Ended) → ⊥
-never_ends from [] quiets is goes walks = over_keeps IsNotEnded tt tt tt ending.Ended from quiets is walks
+pub never_ends : (from : Phase) (steps : List Step) (quiets : ℕ) → Keeps IsNotEnded tt tt from quiets → GoOn quiets steps → Walks from steps (Over ending.Ended) → ⊥
+never_ends from [] quiets is goes walks = over_keeps IsNotEnded tt tt ending.Ended from quiets is walks
 never_ends from (step ∷ steps) quiets is goes (next, moves, walks) =
-    never_ends next steps (quiets_then IsNotEnded tt tt tt quiets step) (move_keeps IsNotEnded tt tt tt from step next quiets is (may_go_on from step steps quiets is goes) moves) (others_go_on step steps quiets goes) walks
+    never_ends next steps (quiets_then IsNotEnded tt tt quiets step) (move_keeps IsNotEnded tt tt from step next quiets is (may_go_on from step steps quiets is goes) moves) (others_go_on step steps quiets goes) walks
 
 -- ---- a refusal
 
@@ -290,23 +294,23 @@ abbrev pub IsNotRefused : ViewEnd → Type 0
 IsNotRefused (ending.Refused code kept) = ⊥
 IsNotRefused end = Unit {0}
 
-may_refuse : (found : Option ReplicaFault) → IsNoRefusal found → MayRefuse IsNotRefused tt tt tt found
+may_refuse : (found : Option ReplicaFault) → IsNoRefusal found → MayRefuse IsNotRefused tt tt found
 may_refuse None is = tt
 may_refuse (Some (fault.Refused about code kept)) is = is
 may_refuse (Some other) is = tt
 
-may_read : (v : Viewer) (found : Option ServerFrame) → RefusesNoOther found → MayRead IsNotRefused tt tt tt v found
+pub may_read : (v : Viewer) (found : Option ServerFrame) → RefusesNoOther found → MayRead IsNotRefused tt tt v found
 may_read v None none = tt
 may_read v (Some frame) none = may_refuse (taken v.worlds v.replica frame).fault (frame_fault v.worlds v.replica frame none)
 
-hears_none : (v : Viewer) (what : Heard) (steps : List Step) → RefuseNoOther (Hears what ∷ steps) → MayHear IsNotRefused tt tt tt v what
+pub hears_none : (v : Viewer) (what : Heard) (steps : List Step) → RefuseNoOther (Hears what ∷ steps) → MayHear IsNotRefused tt tt v what
 hears_none v (said.Frame bytes) steps none = may_read v (whole server_at bytes) none.0
 hears_none v said.Quiet steps none = λ most. tt
 hears_none v said.End steps none = tt
 hears_none v said.Failed steps none = tt
 hears_none v said.WantOfMemory steps none = tt
 
-steps_none : (from : Phase) (step : Step) (steps : List Step) → RefuseNoOther (step ∷ steps) → MayStep IsNotRefused tt tt tt from step
+steps_none : (from : Phase) (step : Step) (steps : List Step) → RefuseNoOther (step ∷ steps) → MayStep IsNotRefused tt tt from step
 steps_none (Receiving v aim) (Hears what) steps none = hears_none v what steps none
 steps_none from step steps none = tt
 
@@ -318,7 +322,7 @@ others_none (Hears said.Failed) steps none = none
 others_none (Hears said.WantOfMemory) steps none = none
 others_none step steps none = none
 
-pub never_refused : (code kept : ℕ) (from : Phase) (steps : List Step) (quiets : ℕ) → Keeps IsNotRefused tt tt tt from quiets → RefuseNoOther steps → Walks from steps (Over (ending.Refused code kept)) → ⊥
-never_refused code kept from [] quiets is none walks = over_keeps IsNotRefused tt tt tt (ending.Refused code kept) from quiets is walks
+pub never_refused : (code kept : ℕ) (from : Phase) (steps : List Step) (quiets : ℕ) → Keeps IsNotRefused tt tt from quiets → RefuseNoOther steps → Walks from steps (Over (ending.Refused code kept)) → ⊥
+never_refused code kept from [] quiets is none walks = over_keeps IsNotRefused tt tt (ending.Refused code kept) from quiets is walks
 never_refused code kept from (step ∷ steps) quiets is none (next, moves, walks) =
-    never_refused code kept next steps (quiets_then IsNotRefused tt tt tt quiets step) (move_keeps IsNotRefused tt tt tt from step next quiets is (steps_none from step steps none) moves) (others_none step steps none) walks
+    never_refused code kept next steps (quiets_then IsNotRefused tt tt quiets step) (move_keeps IsNotRefused tt tt from step next quiets is (steps_none from step steps none) moves) (others_none step steps none) walks

@@ -17,3 +17,4 @@ pub mod Numbers
 pub mod Heard
 pub mod Answering
 pub mod Endings
+pub mod LiveEnds

@@ -5,5 +5,6 @@ pub mod ViewsReplay
 pub mod Sessions
 pub mod SessionsReplay
 pub mod Answered
+pub mod LiveEnds
 pub mod AnyEnds
 pub mod Journals

@@ -3,6 +3,7 @@ ghost use Rattle.run_steps.specs.Outside.{links_tell, net_tells};
 ghost use Rattle.view_follows.specs.AnyEnds.{OfRunsOfViews, RunsLiveOn};
 ghost use Rattle.view_follows.specs.Answered.{AnsweredVisitsHaveNoFault, VisitsEndByRefusals, VisitsEndWithLinks};
 ghost use Rattle.view_follows.specs.BothEnds.{LinksMeet};
+ghost use Rattle.view_follows.specs.LiveEnds.{LiveViewsEndByFaults, LiveViewsEndByPeers, LiveViewsEndByRefusals, LiveViewsEndWithLinks};
 ghost use Rattle.view_follows.specs.Journals.{AnswersTellOfRuns, JournalRunsFollow, JournalsLeave, KeptAnswersTellOfRuns, SafeBytesLeave};
 ghost use Rattle.view_follows.specs.SessionsReplay.{EndsViews, KeepHonest, OfViewRuns, ServesViews};
 ghost use Rattle.view_follows.specs.ViewsReplay.{ViewsReplay, VisitsEndInReplay, VisitsOfferFollowers, VisitsShowReplays};
@@ -39,6 +40,16 @@ pub fn ends_are_caused()
 {
     worlds_stand();
 }
+
+/// Which links keep a live view from an end that is not its lines'. It does not end with `Ended` where no link said that it has ended, or was quiet
+/// 6,000 times in a row; nor with `Refused` where nothing was refused but a snapshot; nor with `NetFault` where each link that it wanted was made,
+/// and none failed; nor with `Peer` where each frame that it heard was one of a reflector, and its replica found no fault of order or of a base in it.
+pub fn live_ends_are_caused()
+    ensures ended { LiveViewsEndWithLinks }
+    ensures refused { LiveViewsEndByRefusals }
+    ensures failed { LiveViewsEndByFaults }
+    ensures peer { LiveViewsEndByPeers }
+{}
 
 /// A link that a log serves at the reflector's end is served by it at the view's, also where a cut lost the end of what went either way.
 pub fn links_meet()

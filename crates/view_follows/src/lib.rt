@@ -4,6 +4,6 @@
 mod laws;
 
 pub use laws::{
-    answers_tell_of_runs, ends_are_caused, journals_leave, links_meet, runs_live_on,
-    views_of_any_runs, views_of_many_runs, views_replay,
+    answers_tell_of_runs, ends_are_caused, journals_leave, links_meet, live_ends_are_caused,
+    runs_live_on, views_of_any_runs, views_of_many_runs, views_replay,
 };

@@ -1,27 +1,37 @@
-use Rattle.std.proofs.Common.{Some, subst, Bool, ◌≡◌}
-use Rattle.std.specs.Prelude.{MatchBool}
+use Rattle.std.proofs.Common.{Some, refl, subst, Bool, ◌≡◌}
+use Rattle.std.specs.Prelude.{MatchBool, ⊤}
 use Rattle.run_steps.specs.Outside.{links_tell, net_tells, output_tells}
 use Rattle.live_view.specs.declared.outcome.LiveWant.TheVariants as want
 use Rattle.live_view.specs.Live.{wanted}
 use Rattle.live_view.specs.View.{live_state}
 use Rattle.live_shell.specs.LiveSteps.{feed_tells, live_outside, live_tells}
-use Rattle.live_shell.proofs.Turning.{stopped_then, turned_none, turned_then}
+use Rattle.live_shell.specs.LiveRun.{AreAny, AreCounted}
+use Rattle.live_shell.proofs.Turning.{stopped_counted, turned_any, turned_counted, turned_none}
 use Rattle.live_shell.proofs.run.attend.Goals as goal
 
 pub loop-init : goal.loop-init
-loop-init g c = record { live = c.requires.live; turned = record { turns = λ address net. turned_none _ address (live_state address c.args.view.now) (live_outside c.args.feed.now c.args.out.now net (Some c.args.link.now)) } }
+loop-init g c = record { live = c.requires.live; turned = record { turns = λ address net. turned_none _ address 0 (AreCounted 0) (live_state address c.args.view.now) (live_outside c.args.feed.now c.args.out.now net (Some c.args.link.now)) refl } }
 
 pub returns-then-not-wants_input-clause-wants : goal.returns-then-not-wants_input-clause-wants
 returns-then-not-wants_input-clause-wants g c address =
     let phase = (live_state address c.loop.view).phase in
     subst (λ (b : Bool). MatchBool b (wanted phase ≡ want.Input) (wanted phase ≡ want.Input → ⊥)) c.if-not-wants_input.true (c.wants_input.ensures address)
 
+pub returns-then-not-wants_input-clause-turned : goal.returns-then-not-wants_input-clause-turned
+returns-then-not-wants_input-clause-turned g c =
+    let tells = live_tells (feed_tells g.K.Feed.coming g.K.Feed.told g.K.Feed.faults) (output_tells g.W.Sink.written g.W.Sink.faults g.W.Sink.wants) (net_tells g.N.Net.coming g.N.Net.over g.N.Net.asked g.N.Net.faults g.N.Net.lent g.N.Net.link_counts)
+    (links_tell g.N.Conn.Link.coming g.N.Conn.Link.heard g.N.Conn.Link.sent g.N.Conn.Link.counts) in
+    record {
+      turns = λ address net. turned_any tells address 0 (AreCounted c.loop.lines) (AreAny {A = ⊤} tt) (live_state address c.args.view.now) (live_state address c.loop.view)
+          (live_outside c.args.feed.now c.args.out.now net (Some c.args.link.now)) (live_outside c.loop.feed c.loop.out net (Some c.loop.link)) (λ n. tt) (c.loop.invariant.turned.turns address net);
+    }
+
 pub returns-in-Err-clause-turned : goal.returns-in-Err-clause-turned
 returns-in-Err-clause-turned g c =
     let tells = live_tells (feed_tells g.K.Feed.coming g.K.Feed.told g.K.Feed.faults) (output_tells g.W.Sink.written g.W.Sink.faults g.W.Sink.wants) (net_tells g.N.Net.coming g.N.Net.over g.N.Net.asked g.N.Net.faults g.N.Net.lent g.N.Net.link_counts)
     (links_tell g.N.Conn.Link.coming g.N.Conn.Link.heard g.N.Conn.Link.sent g.N.Conn.Link.counts) in
     record {
-      turns = λ address net. stopped_then tells address (live_state address c.args.view.now) (live_state address c.loop.view) c.in-Err.end
+      turns = λ address net. stopped_counted tells address 0 c.loop.lines (live_state address c.args.view.now) (live_state address c.loop.view) c.in-Err.end
           (live_outside c.args.feed.now c.args.out.now net (Some c.args.link.now)) (live_outside c.loop.feed c.loop.out net (Some c.loop.link)) (live_outside c.turn.new.feed c.turn.new.out net (Some c.turn.new.link))
           (c.loop.invariant.turned.turns address net) (c.in-Err.ensures.turned.turns address net);
     }
@@ -33,7 +43,7 @@ loop-preserved g c =
     record {
       live = c.turn.ensures.live;
       turned = record {
-        turns = λ address net. turned_then tells address (live_state address c.args.view.now) (live_state address c.loop.view) (live_state address c.turn.new.view)
+        turns = λ address net. turned_counted tells address 0 c.loop.lines (AreCounted c.in-Ok.behind) (live_state address c.args.view.now) (live_state address c.loop.view) (live_state address c.turn.new.view)
             (live_outside c.args.feed.now c.args.out.now net (Some c.args.link.now)) (live_outside c.loop.feed c.loop.out net (Some c.loop.link)) (live_outside c.turn.new.feed c.turn.new.out net (Some c.turn.new.link))
             (c.loop.invariant.turned.turns address net) (c.in-Ok.ensures.turned.turns address net);
       };

@@ -1,4 +1,4 @@
-use Rattle.std.proofs.Common.{Option, Some, subst}
+use Rattle.std.proofs.Common.{Option, Some, refl, sym, subst}
 use Rattle.run_steps.specs.Outside.{Well, links_tell, net_tells, output_tells}
 use Rattle.live_view.specs.declared.input.LiveInput.{LiveInput}
 use Rattle.live_view.specs.View.{live_state}
@@ -13,8 +13,8 @@ returns-in-Err-clause-turned g c =
     let tells = live_tells feed (output_tells g.W.Sink.written g.W.Sink.faults g.W.Sink.wants) (net_tells g.N.Net.coming g.N.Net.over g.N.Net.asked g.N.Net.faults g.N.Net.lent g.N.Net.link_counts)
     (links_tell g.N.Conn.Link.coming g.N.Conn.Link.heard g.N.Conn.Link.sent g.N.Conn.Link.counts) in
     record {
-      turns = λ address net. feed_stops tells address (live_state address c.args.view.now) c.args.feed.now c.ask.new.feed c.args.out.now net (Some c.args.link.now) c.in-Err.fault c.read_end.result
-          c.in-Err.ensures.asked c.read_end.ensures.failed c.read_end.ensures.wanted;
+      turns = λ address net. feed_stops tells address c.args.lines (live_state address c.args.view.now) c.args.feed.now c.ask.new.feed c.args.out.now net (Some c.args.link.now) c.in-Err.fault c.read_end.result
+          c.requires.few c.in-Err.ensures.asked c.read_end.ensures.failed c.read_end.ensures.wanted;
     }
 
 pub returns-in_default-clause-turned : goal.returns-in_default-clause-turned
@@ -23,8 +23,8 @@ returns-in_default-clause-turned g c =
     let tells = live_tells feed (output_tells g.W.Sink.written g.W.Sink.faults g.W.Sink.wants) (net_tells g.N.Net.coming g.N.Net.over g.N.Net.asked g.N.Net.faults g.N.Net.lent g.N.Net.link_counts)
     (links_tell g.N.Conn.Link.coming g.N.Conn.Link.heard g.N.Conn.Link.sent g.N.Conn.Link.counts) in
     record {
-      turns = λ address net. idle_turn tells address (live_state address c.args.view.now) c.args.feed.now c.ask.new.feed c.args.out.now net (Some c.args.link.now)
-          (subst (λ (t : Option LiveInput). AsksFeed feed Well (fed_of t) c.args.feed.now c.ask.new.feed) c.in_default.is c.in-Ok.ensures.asked);
+      turns = λ address net. idle_turn tells address c.args.lines 64 (live_state address c.args.view.now) c.args.feed.now c.ask.new.feed c.args.out.now net (Some c.args.link.now)
+          c.requires.few refl (subst (λ (t : Option LiveInput). AsksFeed feed Well (fed_of t) c.args.feed.now c.ask.new.feed) c.in_default.is c.in-Ok.ensures.asked);
     }
 
 pub returns-in-Ok-answered-clause-turned : goal.returns-in-Ok-answered-clause-turned
@@ -33,8 +33,8 @@ returns-in-Ok-answered-clause-turned g c =
     let tells = live_tells feed (output_tells g.W.Sink.written g.W.Sink.faults g.W.Sink.wants) (net_tells g.N.Net.coming g.N.Net.over g.N.Net.asked g.N.Net.faults g.N.Net.lent g.N.Net.link_counts)
     (links_tell g.N.Conn.Link.coming g.N.Conn.Link.heard g.N.Conn.Link.sent g.N.Conn.Link.counts) in
     record {
-      turns = λ address net. feed_turn tells address (live_state address c.args.view.now) (live_state address c.tell-answered.new.view) c.in-Some.input c.args.feed.now c.ask.new.feed net c.args.out.now c.tell-answered.new.out
-          c.args.link.now c.tell-answered.new.link c.tell-answered.result c.in-Ok-answered.field-0 c.in-Ok-answered.is (subst IsFed c.in-Some.is c.in-Ok.ensures.told)
+      turns = λ address net. feed_turn tells address c.args.lines c.lines_behind-behind.result (live_state address c.args.view.now) (live_state address c.tell-answered.new.view) c.in-Some.input c.args.feed.now c.ask.new.feed net c.args.out.now c.tell-answered.new.out
+          c.args.link.now c.tell-answered.new.link c.tell-answered.result c.in-Ok-answered.field-0 c.in-Ok-answered.is c.requires.few (sym c.lines_behind-behind.ensures) (subst IsFed c.in-Some.is c.in-Ok.ensures.told)
           (subst (λ (t : Option LiveInput). AsksFeed feed Well (fed_of t) c.args.feed.now c.ask.new.feed) c.in-Some.is c.in-Ok.ensures.asked) (c.tell-answered.ensures.told address) (c.in-Ok-answered.ensures.state address);
     }
 
@@ -44,7 +44,7 @@ returns-in-Err-answered-clause-turned g c =
     let tells = live_tells feed (output_tells g.W.Sink.written g.W.Sink.faults g.W.Sink.wants) (net_tells g.N.Net.coming g.N.Net.over g.N.Net.asked g.N.Net.faults g.N.Net.lent g.N.Net.link_counts)
     (links_tell g.N.Conn.Link.coming g.N.Conn.Link.heard g.N.Conn.Link.sent g.N.Conn.Link.counts) in
     record {
-      turns = λ address net. feed_turn_stops tells address (live_state address c.args.view.now) c.in-Some.input c.args.feed.now c.ask.new.feed net c.args.out.now c.tell-answered.new.out
-          c.args.link.now c.tell-answered.new.link c.in-Err-answered.end (subst IsFed c.in-Some.is c.in-Ok.ensures.told)
+      turns = λ address net. feed_turn_stops tells address c.args.lines (live_state address c.args.view.now) c.in-Some.input c.args.feed.now c.ask.new.feed net c.args.out.now c.tell-answered.new.out
+          c.args.link.now c.tell-answered.new.link c.in-Err-answered.end c.requires.few (subst IsFed c.in-Some.is c.in-Ok.ensures.told)
           (subst (λ (t : Option LiveInput). AsksFeed feed Well (fed_of t) c.args.feed.now c.ask.new.feed) c.in-Some.is c.in-Ok.ensures.asked) (c.in-Err-answered.ensures.told address);
     }

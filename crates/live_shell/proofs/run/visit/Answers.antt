@@ -11,7 +11,7 @@ returns-in-Err-Failed-clause-visited g c =
     (links_tell g.N.Conn.Link.coming g.N.Conn.Link.heard g.N.Conn.Link.sent g.N.Conn.Link.counts) in
     let address = c.args.address.now in
     record {
-      turns = λ from back. missed tells address (live_state address c.args.view.now) (live_state address c.go_without.new.view) c.go_without.result from c.args.feed.now c.go_without.new.feed c.args.out.now c.args.net.now c.connect.new.net back
+      turns = λ lines from back. missed tells address lines (live_state address c.args.view.now) (live_state address c.go_without.new.view) c.go_without.result from c.args.feed.now c.go_without.new.feed c.args.out.now c.args.net.now c.connect.new.net back
           (made_not tells.net tells.links address c.args.net.now c.connect.new.net c.connect.result c.connect.ensures c.in-Err-Failed.field-0 fault.Failed c.in-Err-Failed.is c.in-Err-Failed.field-0-is)
           ((c.requires.wants address).is) (c.go_without.ensures.told address) (c.go_without.ensures.paused address) c.go_without.ensures.kept c.go_without.ensures.err;
     }
@@ -22,7 +22,7 @@ returns-in-Err-WantOfMemory-clause-visited g c =
     (links_tell g.N.Conn.Link.coming g.N.Conn.Link.heard g.N.Conn.Link.sent g.N.Conn.Link.counts) in
     let address = c.args.address.now in
     record {
-      turns = λ from back. made_wants tells address (live_state address c.args.view.now) (live_state address c.args.view.now) from c.args.feed.now c.args.out.now c.args.net.now c.connect.new.net back
+      turns = λ lines from back. made_wants tells address lines (live_state address c.args.view.now) (live_state address c.args.view.now) from c.args.feed.now c.args.out.now c.args.net.now c.connect.new.net back
           (made_not tells.net tells.links address c.args.net.now c.connect.new.net c.connect.result c.connect.ensures c.in-Err-WantOfMemory.field-0 fault.WantOfMemory c.in-Err-WantOfMemory.is c.in-Err-WantOfMemory.field-0-is);
     }
 
@@ -32,8 +32,8 @@ returns-clause-visited g c =
     (links_tell g.N.Conn.Link.coming g.N.Conn.Link.heard g.N.Conn.Link.sent g.N.Conn.Link.counts) in
     let address = c.args.address.now in
     record {
-      turns = λ from back. visited tells address (live_state address c.args.view.now) (live_state address c.enter-attended.new.view) c.enter-attended.result from c.args.feed.now c.enter-attended.new.feed c.args.out.now c.enter-attended.new.out c.connect.new.net c.back.new.self c.enter-attended.new.link
-          (c.enter-attended.ensures.turned.turns address c.connect.new.net from (made_acts tells address from c.args.feed.now c.args.out.now c.args.net.now c.connect.new.net c.in-Ok.link back
+      turns = λ lines from back. visited tells address lines (live_state address c.args.view.now) (live_state address c.enter-attended.new.view) c.enter-attended.result from c.args.feed.now c.enter-attended.new.feed c.args.out.now c.enter-attended.new.out c.connect.new.net c.back.new.self c.enter-attended.new.link
+          (c.enter-attended.ensures.turned.turns address c.connect.new.net lines from (made_acts tells address from c.args.feed.now c.args.out.now c.args.net.now c.connect.new.net c.in-Ok.link back
           (made_well tells.net tells.links address c.args.net.now c.connect.new.net c.connect.result c.connect.ensures c.in-Ok.link c.in-Ok.is)))
           (record { lent = c.back.ensures.lent; over = c.back.ensures.over; counts = c.back.ensures.counts; coming = c.back.ensures.coming; asked = c.back.ensures.asked; faults = c.back.ensures.faults });
     }

@@ -2,7 +2,7 @@ use Rattle.std.proofs.Common.{None, [], sym, ◌∙◌}
 use Rattle.run_steps.specs.Outside.{links_tell, net_tells, output_tells}
 use Rattle.live_view.specs.View.{live_state}
 use Rattle.live_shell.specs.LiveSteps.{feed_tells, live_outside, live_tells}
-use Rattle.live_shell.proofs.Visiting.{link_wanted, none_yet, ran_on, ran_over, ran_stops}
+use Rattle.live_shell.proofs.Visiting.{lines_so_far, link_wanted, none_yet, ran_on, ran_over, ran_stops}
 use Rattle.live_shell.proofs.run.visit_links.Goals as goal
 
 pub loop-init : goal.loop-init
@@ -30,7 +30,7 @@ returns-in-Err g c =
     record {
       ran = ran_stops tells address (live_state address c.args.view.now) (live_state address c.loop.view) (live_state address c.visit.new.view) c.in-Err.end
           (live_outside c.args.feed.now c.args.out.now c.args.net.now None) (live_outside c.loop.feed c.loop.out c.loop.net None) (live_outside c.visit.new.feed c.visit.new.out c.visit.new.net None)
-          c.loop.invariant.so_far (c.in-Err.ensures.visited.turns c.loop.invariant.so_far.mid c.loop.invariant.so_far.back);
+          c.loop.invariant.so_far (c.in-Err.ensures.visited.turns (lines_so_far tells address (live_state address c.args.view.now) (live_state address c.loop.view) (live_outside c.args.feed.now c.args.out.now c.args.net.now None) (live_outside c.loop.feed c.loop.out c.loop.net None) c.loop.invariant.so_far) c.loop.invariant.so_far.mid c.loop.invariant.so_far.back);
     }
 
 pub loop-preserved : goal.loop-preserved
@@ -43,7 +43,7 @@ loop-preserved g c =
       wants = c.in-Ok.ensures.wants;
       so_far = ran_on tells address (live_state address c.args.view.now) (live_state address c.loop.view) (live_state address c.visit.new.view) c.in-Ok.field-0
           (live_outside c.args.feed.now c.args.out.now c.args.net.now None) (live_outside c.loop.feed c.loop.out c.loop.net None) (live_outside c.visit.new.feed c.visit.new.out c.visit.new.net None)
-          c.loop.invariant.so_far (c.in-Ok.ensures.visited.turns c.loop.invariant.so_far.mid c.loop.invariant.so_far.back);
+          c.loop.invariant.so_far (c.in-Ok.ensures.visited.turns (lines_so_far tells address (live_state address c.args.view.now) (live_state address c.loop.view) (live_outside c.args.feed.now c.args.out.now c.args.net.now None) (live_outside c.loop.feed c.loop.out c.loop.net None) c.loop.invariant.so_far) c.loop.invariant.so_far.mid c.loop.invariant.so_far.back);
     }
 
 pub unreachable-requires : goal.unreachable-requires

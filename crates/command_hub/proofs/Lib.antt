@@ -1,0 +1,3 @@
+pub mod ScriptText
+pub mod Files
+pub mod Calls

@@ -1,0 +1,2 @@
+pub mod HubScript
+pub mod HubRun
