@@ -4,11 +4,16 @@ A case has the heads of its hints: a file, a line and a column, or a word of the
 hints, so these cases are of the built program alone.
 """
 import os
+import pty
 import re
+import select
+import subprocess
+import time
 
-from case import FOLDER, Case, expect, expect_that, read_cases
+from case import FOLDER, Case, Wrong, expect, expect_that, read_cases
 from commands import read_command
 from reference import expanded
+from reflector import hold_port
 
 HEAD = re.compile(r"([^ ]+):(\d+):(\d+): .*")
 LINE = re.compile(r"  (\d+) \| (.*)")
@@ -116,4 +121,172 @@ def silent_cases():
     return [case_of(*run) for run in runs]
 
 
-PARTS = {"hints": lambda: word_cases() + game_cases() + silent_cases()}
+# ---------------------------------------------------------------- while a run goes on
+
+
+FAULTY = b"""class Root {
+  init(o) {
+    subscribe("door", "bell", "ring");
+    this.future(100).chime();
+  }
+  ring(count) {
+    return 1 / count;
+  }
+  chime() {
+    this.future(50).chime();
+    return this.tone(1);
+  }
+}
+"""
+VISITOR = b"""publish "door" "bell" 1
+publish "door" "knock" nil
+publish "door" "knock" nil
+publish "door" "bell" 0
+publish "door" "bell" 0
+settle
+wait +400000
+"""
+
+
+class Session:
+    """A run of `reflect` that is not quiet, and that `join`s of this program take part in."""
+
+    def __init__(self, program, connections, source, is_quiet):
+        self.program, self.source, self.is_quiet = program, source, is_quiet
+        self.holder = hold_port()
+        self.address = f"127.0.0.1:{self.holder.getsockname()[1]}"
+        self.run = program.start(["reflect", "p", "a", self.address, "--connections", str(connections), "--log", "f"], {"p": source},
+                                 errors=None, is_quiet=is_quiet)
+
+    def join(self, view, script, source=None, stdin=subprocess.DEVNULL):
+        """A `join` of this view, which is tried until the reflector listens."""
+        words = ["join", "p", "a", self.address, str(view), "-" if script is None else "s"]
+        files = {"p": source or self.source, **({} if script is None else {"s": script})}
+        until = time.monotonic() + self.program.patience
+        while True:
+            run = self.program.start(words, files, errors=None, is_quiet=self.is_quiet, stdin=stdin)
+            ended = run.end()
+            if ended.status != 6 or time.monotonic() > until:
+                return ended
+            time.sleep(0.1)
+
+    def end(self):
+        run = self.run.end()
+        self.holder.close()
+        return run
+
+
+def guests_are_told(program):
+    """One view joins and leaves, one has another program."""
+    session = Session(program, 2, b"class Root{}", False)
+    expect(0, session.join(7, b"quit\n").status)
+    refused = session.join(8, b"quit\n", b"class Root{} ")
+    expect(7, refused.status)
+    lines = session.end().errors.decode().splitlines()
+    expect_that(lines[0].startswith("listening at "), "the line of who listens", lines[:1])
+    wanted = ["link 0: view 7 joined", "link 0: view 7 left", "link 1: view 8 refused 12: another session"]
+    expect_that(len(lines) == 4 and all(line.startswith(first) for line, first in zip(lines[1:], wanted)), wanted, lines)
+
+
+def faults_are_told(program):
+    """Each kind of fault is told once in its place, and each event that no handler heard."""
+    session = Session(program, 1, FAULTY, False)
+    run = session.join(7, VISITOR)
+    session.end()
+    expect(0, run.status)
+    lines = run.errors.decode().splitlines()
+    wanted = [r'fault no-method at \d+ in the method chime of Root: ', r'no handler heard "door" "knock" at \d+, entry \d+: ',
+              r'fault zero-divisor at \d+ in a handler of "door" "bell": ']
+    matched = sorted(first for first in wanted for line in lines if re.match(first, line))
+    expect((sorted(wanted), len(wanted)), (matched, len(lines)))
+
+
+def lines_are_told(program):
+    """Of a line of the standard input that is none it is said what is wrong, by its number."""
+    session = Session(program, 1, b"class Root{}", False)
+    with subprocess.Popen(["printf", "mark a\nmrk b\nhold x\nquit\n"], stdout=subprocess.PIPE) as lines:
+        time.sleep(1)
+        run = session.join(7, None, stdin=lines.stdout)
+    session.end()
+    expect(["bad-line 2", "bad-line 3", "mark a"], sorted(run.told().split(" / ")[:3]))
+    heads = [line for line in run.errors.decode().splitlines() if line.startswith("line ")]
+    wanted = ['line 2: there is no line "mrk"', "line 3: N is a whole number"]
+    expect_that(len(heads) == 2 and all(head.startswith(first) for head, first in zip(heads, wanted)), wanted, heads)
+
+
+def all_is_quiet(program):
+    """With CROQUET_QUIET nothing but who listens is told."""
+    session = Session(program, 1, FAULTY, True)
+    run = session.join(7, VISITOR)
+    reflected = session.end()
+    expect((0, b""), (run.status, run.errors))
+    expect_that(re.fullmatch(rb"listening at [^\n]*\n", reflected.errors) is not None, "one line", reflected.errors)
+
+
+def written_on(terminal, seconds):
+    """What was written on a terminal, once something was, or so many seconds have passed."""
+    if not select.select([terminal], [], [], seconds)[0]:
+        return b""
+    try:
+        return os.read(terminal, 65536)
+    except OSError:  # nobody has it open any more
+        return b""
+
+
+def on_a_terminal(program, words, is_quiet=False):
+    """What a run writes on the error stream, where that is a terminal; and its output and its status."""
+    terminal, other = pty.openpty()
+    quiet = {"CROQUET_QUIET": "1"} if is_quiet else {}
+    process = subprocess.Popen([*program.launcher, program.path, *words], cwd=program.folder, env={"PATH": os.environ.get("PATH", ""), **quiet},
+                               stdin=subprocess.DEVNULL, stdout=subprocess.PIPE, stderr=other)
+    os.close(other)
+    shown, until = b"", time.monotonic() + program.patience
+    while process.poll() is None:
+        if time.monotonic() > until:
+            process.kill()
+            raise Wrong("an end", "none")
+        shown += written_on(terminal, 0.1)
+    while more := written_on(terminal, 0):
+        shown += more
+    os.close(terminal)
+    return shown, process.communicate()[0], process.returncode
+
+
+SLOW = b"""class Root { init(o) { this.future(1).work(); }
+work() { let i = 0; while (i < 9000) { i = i + 1; } this.future(1).work(); } }
+"""
+
+
+def write_slow(program, entries):
+    """The program, and a log of so many events, a message of some work before each."""
+    script = "join 7 0\n" + "".join(f"send 7 1 {number} {number * 1000} -\n" for number in range(1, entries + 1))
+    log = program.run(["stamp", "s", "--log", "log"], {"s": script.encode()}).files["log"]
+    for name, content in (("slow", SLOW), ("log", log)):
+        with open(os.path.join(program.folder, name), "wb") as file:
+            file.write(content)
+
+
+def long_work_is_shown(program):
+    """A replay of some seconds shows its line on a terminal, and takes it away; a short one shows nothing, and so does one that is quiet."""
+    entries, took = 4, 0
+    while took < 3:
+        entries *= 2
+        write_slow(program, entries)
+        words = ["replay", "slow", "a", "log", str(entries * 1000)]
+        began = time.monotonic()
+        shown, text, status = on_a_terminal(program, words)
+        took = time.monotonic() - began
+    expect(0, status)
+    counted = rf"\rreplay: \d+ s, [1-9]\d* of {entries + 1} entries, some \d+ s left".encode()
+    expect_that(b"\rreplay: 1 s\x1b[K" in shown and shown.endswith(b"\r\x1b[K"), "a line that is taken away", shown)
+    expect_that(re.search(counted, shown) is not None, counted, shown)
+    expect((b"", text, 0), on_a_terminal(program, words, True))
+    expect(b"", on_a_terminal(program, ["replay", "slow", "a", "log", "1"])[0])
+
+
+def note_cases():
+    checks = [guests_are_told, faults_are_told, lines_are_told, all_is_quiet, long_work_is_shown]
+    return [Case(f"notes: {check.__name__.replace('_', ' ')}", check) for check in checks]
+
+
+PARTS = {"hints": lambda: word_cases() + game_cases() + silent_cases() + note_cases()}

@@ -7,7 +7,7 @@ from files import FAILING
 from live import SOURCE, check_view, start_join
 from onward import FULL, MOST_OPEN, MOST_VIEWS, full_log, stored_session
 from reference import croquet, log_text
-from reflector import expect_words, leave_all, reflecting, served_log, snap_frame
+from reflector import EMPTY, expect_words, leave_all, reflecting, served_log, snap_frame
 from sessions import named_cases
 
 # A horizon that no clock of a run comes to.
@@ -22,7 +22,9 @@ def has(view):
 def first_run(program):
     """A run in which view 7 sends an event and is cut off: its file, that view, and the stamp of the event."""
     with reflecting(program, 2) as reflector:
-        other, view = reflector.view(8), reflector.view(7)
+        other = reflector.view(8)
+        other.joined()
+        view = reflector.view(7)
         stamp = view.done(b"hi")
         view.until_tick(stamp[1] + 1)
         view.wire.close()
@@ -281,7 +283,24 @@ def views_of_two_runs_have_the_worlds_of_one_log(program):
     expect([5, 7, 11, 13], sorted(croquet.read_payload(entry.payload)[2] for entry in entries if entry.kind == "event"))
 
 
+def a_log_that_cannot_be_put_is_found_first(program):
+    """No name but those that were there is left, and nothing listens."""
+    words = ["reflect", "p", "a", "127.0.0.1:1", "--connections", "1", "--log"]
+    for name in ("no/f", "."):
+        run = program.run([*words, name], {"p": EMPTY})
+        expect(("write-fault [5]", {}), (run.told(), run.files))
+
+
+def a_look_leaves_nothing(program):
+    """The address is none at which this program may listen: so the run ends after its look."""
+    words = ["reflect", "p", "a", "192.0.2.1:1", "--connections", "1", "--log", "f"]
+    for files in ({}, {"f": b"old"}):
+        run = program.run(words, {"p": EMPTY, **files}, b"cannot listen at 192.0.2.1:1: this machine does not have that address\n")
+        expect(("net-fault [6]", {}), (run.told(), run.files))
+
+
 RESTARTS = [
+    a_log_that_cannot_be_put_is_found_first, a_look_leaves_nothing,
     views_of_two_runs_have_the_worlds_of_one_log, a_client_of_the_first_run_joins_the_second,
     who_was_here_is_put_out_in_rising_order, many_who_were_here_are_put_out, the_clock_goes_on,
     who_joins_has_the_snapshot_of_the_first_run, a_snapshot_of_so_many_bytes_is_given_on,

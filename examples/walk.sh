@@ -4,7 +4,7 @@
 #
 # A ```sh block that calls ./croquet, or a script, is run. The ```text block after it is what its commands print. Where there is none, they print
 # nothing. A ```console block has commands for terminals of their own, which run at the same time. The ```console block after it is what the second of
-# them prints, but for times, digests and how many entries it has seen.
+# them prints, but for times, digests and how many entries it has seen. Where there is none, they end by hand, and are not run.
 set -euo pipefail
 top=$(cd "$(dirname "${BASH_SOURCE[0]}")/.." && pwd)
 work=$(mktemp -d)
@@ -84,7 +84,10 @@ walk() {
     for block in "$parts"/*.sh "$parts"/*.terminals; do
         case $block in
         *'*'*) continue ;;
-        *.terminals) run_terminal_block "$page" "$block" ;;
+        *.terminals)
+            [ -e "${block%.terminals}.seen" ] || continue
+            run_terminal_block "$page" "$block"
+            ;;
         *)
             grep -q '\./croquet\|^examples/\|^bash ' "$block" || continue
             run_block "$page" "$block"

@@ -56,6 +56,23 @@ impl Files for WantingFiles {
             }
         }
     }
+
+    fn look(&mut self, name: &Text) -> Result<(), FileFault> {
+        self.calls = self.calls.saturating_add(1);
+        if self.calls == self.wanting {
+            self.wants = self.wants.saturating_add(1);
+            return Err(FileFault::WantOfMemory);
+        }
+        match self.files.look(name) {
+            Ok(()) => Ok(()),
+            Err(FileFault::Failed) => Err(FileFault::Failed),
+            Err(FileFault::TooLarge { len }) => Err(FileFault::TooLarge { len }),
+            Err(FileFault::WantOfMemory) => {
+                self.wants = self.wants.saturating_add(1);
+                Err(FileFault::WantOfMemory)
+            }
+        }
+    }
 }
 
 /// An output of which the call with this number, counted from 1, answers want of memory.

@@ -33,7 +33,7 @@ use Rattle.tea_base.specs.Limits.{most_snapshot}
 use Rattle.commands.specs.Work.{AsksNoLive, NamesNoJournal, RunsOn}
 use Rattle.command_hub.specs.declared.script.HubLine.{HubLine}
 use Rattle.command_hub.specs.HubScript.{hub_script_of}
-use Rattle.commands.specs.Verdict.{ByDrill, ByGoingOn, ByKeeping, ByLive, ByNetFault, ByReadFault, ByReflecting, ByRefusal, ByVisit, ByWant, ByWriteFault, Closing, Comes, Coming, Fine, Free, OfFile, OfFounded, OfGiven, OfHubScript, OfInspect, OfInspectedLog, OfJoin, OfJournal, OfJson, OfKeyframes, OfLive, OfLiveBegun, OfLog, OfOpening, OfOwn, OfPersisted, OfProgram, OfQueries, OfRecorded, OfReflect, OfReflected, OfRight, OfScript, OfServed, OfSnapshot, OfTimeLine, OfTrace, OfTraced, OfTracedLog, OfTree, OfUnkept, OfView, OfViewScript, OfWords, Only, PlainKeeping, PlainLive, PlainReflection, PlainSource, PlainVisit, Starts, Verdict, ask_file, at_once, count_verdict, fine, first_source, founded, hub_verdict, inspect_verdict, keeping_of, keeps_few, live_of, most_log, most_queries, most_script, names_no_other, reflection_of, session_id_of, stamp_verdict, trace_verdict, visit_to, votes_verdict}
+use Rattle.commands.specs.Verdict.{ByDrill, ByGoingOn, ByKeeping, ByLive, ByNetFault, ByReadFault, ByReflecting, ByRefusal, ByVisit, ByWant, ByWriteFault, Closing, Comes, Coming, Fine, Free, OfFile, OfFounded, OfGiven, OfHubScript, OfInspect, OfInspectedLog, OfJoin, OfJournal, OfJson, OfKeyframes, OfLive, OfLiveBegun, OfLog, OfOpening, OfOwn, OfPersisted, OfProgram, OfQueries, OfRecorded, OfReflect, OfReflected, OfRight, OfScript, OfServed, OfSnapshot, OfTimeLine, OfTrace, OfTraced, OfTracedLog, OfTree, OfUnkept, OfView, OfViewScript, OfWords, Only, PlainKeeping, PlainLive, PlainReflection, PlainSource, PlainVisit, Starts, Verdict, ask_file, at_once, count_verdict, fine, first_source, founded, hub_verdict, inspect_verdict, keeping_of, keeps_few, live_of, most_log, most_queries, most_script, names_no_other, reflection_of, session_id_of, stamp_verdict, trace_verdict, visit_to, votes_verdict, OfLooked, OfReady}
 
 map_right : {A B C : Type 0} → A ⊎ B → (B → C) → A ⊎ C
 map_right (inl a) f = inl a
@@ -199,10 +199,18 @@ module _ (IsBad : Closing → Type 0) (not_fine : ¬ IsBad Fine) (not_refused : 
   journal_never (Some name) without with_one none (inl is) = absurd cc
   journal_never (Some name) without with_one none (inr each) = each name
 
+  looked_never : (log : Option (List ℕ)) (next : Coming) → Never next → Never (OfLooked log next)
+  looked_never None next never verdict comes on = never verdict comes on
+  looked_never (Some name) next never verdict (rest, is, comes) on = free_never next never rest comes (subst (λ (v : Verdict). IsBad v.closing) is on)
+
+  ready_never : ((reflection : PlainReflection) → ¬ IsBad (ByReflecting reflection)) → (reflection : PlainReflection) → Never (OfReady reflection)
+  ready_never not_reflecting reflection =
+      looked_never reflection.log (Only (at_once (ByReflecting reflection))) (only_never (at_once (ByReflecting reflection)) (not_reflecting reflection))
+
   reflected_never : ((reflection : PlainReflection) → ¬ IsBad (ByReflecting reflection)) → (request : ReflectRequest) (id : List ℕ) (source : PlainSource) → Never (OfReflected request id source)
   reflected_never not_reflecting request id source =
       let reflection : PlainReflection = reflection_of request id (session_of source.stored) in
-      own_never source id (Only (at_once (ByReflecting reflection))) (only_never (at_once (ByReflecting reflection)) (not_reflecting reflection))
+      own_never source id (OfReady reflection) (ready_never not_reflecting reflection)
 
   served_never : ((reflection : PlainReflection) → ¬ IsBad (ByReflecting reflection)) → (request : ReflectRequest) → (request.journal ≡ None) ⊎ ((keeping : PlainKeeping) → ¬ IsBad (ByKeeping keeping)) → (id : List ℕ)
       → Never (OfServed request id)

@@ -18,7 +18,7 @@ use Rattle.snapshot_codec.specs.Answer.{IsSnapshot}
 use Rattle.snapshot_codec.specs.Reading.{world_in}
 use Rattle.snapshot_codec.proofs.Fitting.{world-fits}
 use Rattle.snapshot_codec.proofs.WorldCodec.{world-again}
-use Rattle.run_steps.specs.Steps.{Ask, Step, Loads, Puts, Prints, Connects, Returns, Hears, Sends}
+use Rattle.run_steps.specs.Steps.{Ask, Step, Loads, Puts, Looks, Prints, Connects, Returns, Hears, Sends}
 use Rattle.command_outcome.specs.declared.outcome.Input.{Input}
 use Rattle.command_outcome.specs.declared.outcome.Input.TheVariants as input
 use Rattle.command_outcome.specs.declared.outcome.CommandRefusal.TheVariants as refusal
@@ -44,7 +44,7 @@ use Rattle.commands.proofs.LogLaws.{same_source}
 use Rattle.commands.specs.Laws.{AreAlike, AreDoneAlike, IsOneVerdict, IsFunction}
 use Rattle.command_hub.specs.declared.script.HubLine.{HubLine}
 use Rattle.command_hub.specs.HubScript.{hub_script_of}
-use Rattle.commands.specs.Verdict.{ByDrill, ByKeeping, ByLive, ByReflecting, ByRefusal, ByVisit, ByWant, Closing, Coming, Free, OfFile, OfFounded, OfGiven, OfHubScript, OfInspect, OfInspectedLog, OfJoin, OfJournal, OfJson, OfKeyframes, OfLive, OfLiveBegun, OfLog, OfOpening, OfOwn, OfPersisted, OfProgram, OfQueries, OfRecorded, OfReflect, OfReflected, OfRight, OfScript, OfServed, OfSnapshot, OfTimeLine, OfTrace, OfTraced, OfTracedLog, OfTree, OfUnkept, OfView, OfViewScript, OfWords, Only, PlainSource, Starts, Verdict, ask_file, at_once, before, count_verdict, first_source, founded, hub_verdict, inspect_verdict, keeping_of, keeps_few, live_of, most_log, most_queries, most_script, names_no_other, reflection_of, resumed_verdict, session_id_of, stamp_verdict, trace_verdict, visit_to, votes_verdict}
+use Rattle.commands.specs.Verdict.{ByDrill, ByKeeping, ByLive, ByReflecting, ByRefusal, ByVisit, ByWant, Closing, Coming, Free, OfFile, OfFounded, OfGiven, OfHubScript, OfInspect, OfInspectedLog, OfJoin, OfJournal, OfJson, OfKeyframes, OfLive, OfLiveBegun, OfLog, OfOpening, OfOwn, OfPersisted, OfProgram, OfQueries, OfRecorded, OfReflect, OfReflected, OfRight, OfScript, OfServed, OfSnapshot, OfTimeLine, OfTrace, OfTraced, OfTracedLog, OfTree, OfUnkept, OfView, OfViewScript, OfWords, Only, PlainSource, Starts, Verdict, ask_file, at_once, before, count_verdict, first_source, founded, hub_verdict, inspect_verdict, keeping_of, keeps_few, live_of, most_log, most_queries, most_script, names_no_other, reflection_of, resumed_verdict, session_id_of, stamp_verdict, trace_verdict, visit_to, votes_verdict, OfLooked, OfReady, PlainReflection}
 
 -- what `model_lang::one_reading` says
 abbrev pub IsOneReading : Type 0
@@ -66,6 +66,7 @@ wants_last (step ∷ steps) closing = refl
 step_alike : (step : Step) (alike : Type 0) → alike → AreDoneAlike step step alike
 step_alike (Loads ask given) alike holds = (refl, λ (same : given ≡ given). holds)
 step_alike (Puts name bytes) alike holds = (refl, holds)
+step_alike (Looks name) alike holds = (refl, holds)
 step_alike (Prints text) alike holds = (refl, holds)
 step_alike (Connects address) alike holds = (refl, holds)
 step_alike Returns alike holds = (refl, holds)
@@ -294,10 +295,18 @@ one_live request text tree =
 
 -- ---- reflect
 
+one_looked : (log : Option (List ℕ)) (next : Coming) → IsOneVerdict next → IsOneVerdict (OfLooked log next)
+one_looked None next one verdict other first second = one verdict other first second
+one_looked (Some name) next one verdict other (rest, is, a) (more, also, b) =
+    alike_by verdict other (before (Looks name) rest) (before (Looks name) more) is also (refl, one_free next one rest more a b)
+
+one_ready : (reflection : PlainReflection) → IsOneVerdict (OfReady reflection)
+one_ready reflection = one_looked reflection.log (Only (at_once (ByReflecting reflection))) (one_only (at_once (ByReflecting reflection)))
+
 one_reflected : (request : ReflectRequest) (id : List ℕ) (source : PlainSource) → IsOneVerdict (OfReflected request id source)
 one_reflected request id source =
-    let reflects : Verdict = at_once (ByReflecting (reflection_of request id (session_of source.stored))) in
-    one_own source id (Only reflects) (one_only reflects)
+    let reflection : PlainReflection = reflection_of request id (session_of source.stored) in
+    one_own source id (OfReady reflection) (one_ready reflection)
 
 one_unkept : (request : ReflectRequest) (id : List ℕ) → IsOneVerdict (OfUnkept request id)
 one_unkept request id = one_opening request.from (OfReflected request id) (one_reflected request id)

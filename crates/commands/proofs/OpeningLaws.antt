@@ -10,7 +10,7 @@ use Rattle.session_log.specs.Stored.{PlainStored}
 use Rattle.session_journal.specs.State.{founded}
 use Rattle.command_words.specs.declared.words.ReflectRequest.{ReflectRequest}
 use Rattle.commands.specs.Keeping.{OfFounding, OfFoundingLog, founded_with}
-use Rattle.commands.specs.Verdict.{ByKeeping, ByReflecting, ByRefusal, Coming, Free, OfFile, OfJournal, OfLog, OfOpening, OfReflected, OfRight, OfUnkept, Only, PlainKeeping, PlainSource, Verdict, ask_file, at_once, most_log, reflection_of}
+use Rattle.commands.specs.Verdict.{ByKeeping, ByRefusal, Coming, Free, OfFile, OfJournal, OfLog, OfOpening, OfReady, OfReflected, OfRight, OfUnkept, Only, PlainKeeping, PlainSource, Verdict, ask_file, at_once, most_log, reflection_of}
 
 -- a log is named
 pub opened_by_file : (from : Option (List ℕ)) (file : List ℕ) (next : PlainSource → Coming) (verdict : Verdict) → from ≡ Some file
@@ -25,10 +25,10 @@ opened_freely from session next verdict is first comes =
 
 -- none is, and the session is reflected
 pub reflected_first : (request : ReflectRequest) (id : List ℕ) (session : PlainSession) (verdict : Verdict) → request.from ≡ None → session ≡ first_session
-    → Free (Only (at_once (ByReflecting (reflection_of request id session)))) verdict → Free (OfUnkept request id) verdict
+    → Free (OfReady (reflection_of request id session)) verdict → Free (OfUnkept request id) verdict
 reflected_first request id session verdict is first comes =
     subst (λ (f : Option (List ℕ)). Free (OfOpening f (OfReflected request id)) verdict) (sym is)
-    (subst (λ (s : PlainSession). Free (Only (at_once (ByReflecting (reflection_of request id s)))) verdict) first comes)
+    (subst (λ (s : PlainSession). Free (OfReady (reflection_of request id s)) verdict) first comes)
 
 -- ---- a journal
 

@@ -9,7 +9,7 @@ use Rattle.model_solved.specs.Founding.{Founding}
 use Rattle.model_solved.specs.declared.fault.CheckFault.{CheckFault}
 use Rattle.model_solved.specs.Faults.{first_fault}
 use Rattle.model_value.specs.Plain.{PlainValue, nil}
-use Rattle.run_steps.specs.Steps.{Ask, Loads}
+use Rattle.run_steps.specs.Steps.{Ask, Loads, Looks}
 use Rattle.command_outcome.specs.declared.outcome.Input.{Input}
 use Rattle.command_outcome.specs.declared.outcome.Input.TheVariants as input
 use Rattle.command_outcome.specs.declared.outcome.CommandRefusal.{CommandRefusal}
@@ -43,7 +43,7 @@ use Rattle.commands.specs.Laws.{AreGiven, IsOnlyWant, SomeVerdictComes}
 use Rattle.command_hub.specs.declared.script.HubLine.{HubLine}
 use Rattle.command_hub.specs.HubScript.{hub_script_of}
 use Rattle.command_hub.specs.HubRun.{hub_puts, hub_run}
-use Rattle.commands.specs.Verdict.{ByDrill, ByKeeping, ByLive, ByReflecting, ByRefusal, ByVisit, ByWant, Coming, Fine, OfCommand, OfFile, OfFounded, OfGiven, OfHubScript, OfInspect, OfInspectedLog, OfJoin, OfJournal, OfJson, OfKeyframes, OfLive, OfLiveBegun, OfLog, OfOpening, OfOwn, OfPersisted, OfProgram, OfQueries, OfRecorded, OfReflect, OfReflected, OfRight, OfScript, OfServed, OfSnapshot, OfTimeLine, OfTrace, OfTraced, OfTracedLog, OfTree, OfUnkept, OfView, OfViewScript, Only, PlainKeeping, PlainLive, PlainReflection, PlainSource, PlainVisit, Starts, ask_file, at_once, before, count_verdict, fine, first_source, founded, keeping_of, keeps_few, live_of, most_log, most_queries, most_script, names_no_other, reflection_of, session_id_of, stamp_verdict, trace_verdict, visit_to, votes_verdict}
+use Rattle.commands.specs.Verdict.{ByDrill, ByKeeping, ByLive, ByReflecting, ByRefusal, ByVisit, ByWant, Coming, Fine, OfCommand, OfFile, OfFounded, OfGiven, OfHubScript, OfInspect, OfInspectedLog, OfJoin, OfJournal, OfJson, OfKeyframes, OfLive, OfLiveBegun, OfLog, OfOpening, OfOwn, OfPersisted, OfProgram, OfQueries, OfRecorded, OfReflect, OfReflected, OfRight, OfScript, OfServed, OfSnapshot, OfTimeLine, OfTrace, OfTraced, OfTracedLog, OfTree, OfUnkept, OfView, OfViewScript, Only, PlainKeeping, PlainLive, PlainReflection, PlainSource, PlainVisit, Starts, ask_file, at_once, before, count_verdict, fine, first_source, founded, keeping_of, keeps_few, live_of, most_log, most_queries, most_script, names_no_other, reflection_of, session_id_of, stamp_verdict, trace_verdict, visit_to, votes_verdict, OfLooked, OfReady}
 
 abbrev pub Told : Type 0
 Told = Ask → Option (List ℕ)
@@ -251,11 +251,19 @@ live_not_want told request text tree =
 
 -- ---- reflect
 
+looked_not_want : (told : Told) (log : Option (List ℕ)) (next : Coming) → ¬ IsOnlyWant told next → ¬ IsOnlyWant told (OfLooked log next)
+looked_not_want told None next each only = each only
+looked_not_want told (Some name) next each only = each (λ rest comes given. only (before (Looks name) rest) (rest, refl, inr comes) given)
+
+ready_not_want : (told : Told) (reflection : PlainReflection) → ¬ IsOnlyWant told (OfReady reflection)
+ready_not_want told reflection =
+    let reflects : Coming = Only (at_once (ByReflecting reflection)) in
+    looked_not_want told reflection.log reflects (reflection_not_want told reflects reflection refl)
+
 reflected_not_want : (told : Told) (request : ReflectRequest) (id : List ℕ) (source : PlainSource) → ¬ IsOnlyWant told (OfReflected request id source)
 reflected_not_want told request id source =
     let reflection : PlainReflection = reflection_of request id (session_of source.stored) in
-    let reflects : Coming = Only (at_once (ByReflecting reflection)) in
-    own_not_want told source id reflects (reflection_not_want told reflects reflection refl)
+    own_not_want told source id (OfReady reflection) (ready_not_want told reflection)
 
 unkept_not_want : (told : Told) (request : ReflectRequest) (id : List ℕ) → ¬ IsOnlyWant told (OfUnkept request id)
 unkept_not_want told request id = opening_not_want told request.from (OfReflected request id) (reflected_not_want told request id)

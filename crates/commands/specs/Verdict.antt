@@ -2,6 +2,8 @@
 use Rattle.std.specs.Prelude.{◌≡◌, ◌⊎◌, ℕ, ℤ, ◌/◌, Bool, true, false, nat_le, nat_lt, if◌then◌else◌, List, [], ◌∷◌, ◌++◌, length, encode_utf8_all, Option, Some, None}
 use Rattle.std.specs.Str.{bytes_eq}
 use Rattle.tea_base.specs.declared.entry.Entry.{Entry}
+use Rattle.tea_io.specs.declared.net.NetFault.{NetFault}
+use Rattle.tea_io.specs.declared.net.NetFault.TheVariants as net_fault
 use Rattle.connection.specs.declared.ending.Ended.{Ended}
 use Rattle.reflector_core.specs.PlainSession.{PlainSession}
 use Rattle.reflector_core.specs.Stored.{session_of, stored_of}
@@ -24,7 +26,7 @@ use Rattle.snapshot_codec.specs.Answer.{IsSnapshot}
 use Rattle.snapshot_codec.specs.Spelling.{persisted_bytes, world_spelling}
 use Rattle.model_value.specs.Plain.{PlainValue, nil}
 use Rattle.persist_json.specs.JsonOf.{IsJsonOf, most_json}
-use Rattle.run_steps.specs.Steps.{Ask, Step, Loads, Puts, Prints}
+use Rattle.run_steps.specs.Steps.{Ask, Step, Loads, Puts, Looks, Prints}
 use Rattle.view_script.specs.PlainLine.{PlainLine}
 use Rattle.view_script.specs.ViewScript.{view_script_of}
 use Rattle.command_outcome.specs.declared.outcome.Input.{Input}
@@ -437,9 +439,18 @@ abbrev pub OfJournal : Option (List ℕ) → Coming → (List ℕ → Coming) �
 OfJournal None without with_one = without
 OfJournal (Some journal) without with_one = with_one journal
 
+-- Before anything listens the run looks whether the log can be put, if there is a name for it. Memory may be wanted for the look alone.
+abbrev pub OfLooked : Option (List ℕ) → Coming → Coming
+OfLooked None next = next
+OfLooked (Some name) next = Then (Looks name) (Free next)
+
+-- a session is ready to be reflected
+abbrev pub OfReady : PlainReflection → Coming
+OfReady reflection = OfLooked reflection.log (Only (at_once (ByReflecting reflection)))
+
 -- what a log holds is reflected, if it is of the session
 abbrev pub OfReflected : ReflectRequest → List ℕ → PlainSource → Coming
-OfReflected request id source = OfOwn source.named id (Only (at_once (ByReflecting (reflection_of request id (session_of source.stored)))))
+OfReflected request id source = OfOwn source.named id (OfReady (reflection_of request id (session_of source.stored)))
 
 -- without a journal the session begins, and is reflected
 abbrev pub OfUnkept : ReflectRequest → List ℕ → Coming
@@ -454,14 +465,17 @@ abbrev pub OfReflect : ReflectRequest → List ℕ → Coming
 OfReflect request text =
     OfRight input.Address (is_address (encode_utf8_all request.address)) (OfPersisted request.persisted (λ v. OfServed request (session_id_of request.name text v)))
 
--- how a run is closed after its reflector: a call was not kept, or the net has failed, or all went well
-abbrev pub reflected_closing : Bool → Bool → Closing
-reflected_closing unkept net_failed = if unkept then ByWriteFault else if net_failed then ByNetFault else Fine
+-- how a run is closed after its reflector: a call was not kept, or the net has failed or memory was wanted for one more link, or all went well
+abbrev pub reflected_closing : Bool → Option NetFault → Closing
+reflected_closing true stopped = ByWriteFault
+reflected_closing false None = Fine
+reflected_closing false (Some net_fault.Failed) = ByNetFault
+reflected_closing false (Some net_fault.WantOfMemory) = ByWant
 
 -- the text of a session that was reflected is printed
-abbrev pub reflected_verdict : List Ended → PlainSession → Bool → Bool → Verdict
-reflected_verdict ends session unkept net_failed =
-    record { steps = Prints (reflected_text ends session) ∷ []; closing = reflected_closing unkept net_failed }
+abbrev pub reflected_verdict : List Ended → PlainSession → Bool → Option NetFault → Verdict
+reflected_verdict ends session unkept stopped =
+    record { steps = Prints (reflected_text ends session) ∷ []; closing = reflected_closing unkept stopped }
 
 -- a session is put as it is stored, if there is a name for it, and then this comes
 abbrev pub OfPut : Option (List ℕ) → PlainSession → Coming → Coming
@@ -469,8 +483,8 @@ OfPut None session next = next
 OfPut (Some name) session next = Then (Puts name (reflected_bytes session)) next
 
 -- What comes of a session after its reflector. It is put first, and want of memory comes in place of no put. Then its text is printed, and only that may want memory.
-abbrev pub OfEnds : Option (List ℕ) → List Ended → PlainSession → Bool → Bool → Coming
-OfEnds log ends session unkept net_failed = OfPut log session (Free (Only (reflected_verdict ends session unkept net_failed)))
+abbrev pub OfEnds : Option (List ℕ) → List Ended → PlainSession → Bool → Option NetFault → Coming
+OfEnds log ends session unkept stopped = OfPut log session (Free (Only (reflected_verdict ends session unkept stopped)))
 
 -- ---- drill
 

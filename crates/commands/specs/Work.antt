@@ -42,7 +42,7 @@ use Rattle.view_script.specs.PlainLine.{plain_lines}
 use Rattle.command_words.specs.Bounds.{AreConnections, IsBounded, IsBoundedDrill, IsBoundedInspect, IsBoundedJoin, IsBoundedLive, IsBoundedReflect, IsBoundedTrace}
 use Rattle.command_outcome.specs.Outcome.{steps_of}
 use Rattle.commands.specs.Keeping.{OfFoundingLog}
-use Rattle.commands.specs.Verdict.{Verdict, PlainKeeping, PlainLive, PlainReflection, PlainVisit, ByDrill, ByKeeping, ByLive, ByRefusal, ByReflecting, ByVisit, ByWant, Coming, Only, OfFile, OfFounded, OfHubScript, OfInspect, OfJoin, OfJson, OfLive, OfTimeLine, OfInspectedLog, OfProgram, OfQueries, OfLog, OfRecorded, OfReflect, OfReflected, OfScript, OfServed, OfSnapshot, OfTree, PlainSource, OfViewScript, ask_file, at_once, count_verdict, fine, founded, keeps_few, live_of, most_log, most_queries, most_script, session_id_of, stamp_verdict, visit_to, OfTrace, OfTraced, OfTracedLog, votes_verdict}
+use Rattle.commands.specs.Verdict.{Verdict, PlainKeeping, PlainLive, PlainReflection, PlainVisit, ByDrill, ByKeeping, ByLive, ByRefusal, ByVisit, ByWant, Coming, Only, OfFile, OfFounded, OfHubScript, OfInspect, OfJoin, OfJson, OfLive, OfTimeLine, OfInspectedLog, OfProgram, OfQueries, OfLog, OfRecorded, OfReflect, OfReflected, OfScript, OfServed, OfSnapshot, OfTree, PlainSource, OfViewScript, ask_file, at_once, count_verdict, fine, founded, keeps_few, live_of, most_log, most_queries, most_script, session_id_of, stamp_verdict, visit_to, OfTrace, OfTraced, OfTracedLog, votes_verdict, OfReady}
 
 -- ---- a command that waits for a file
 
@@ -297,7 +297,7 @@ ComesNext (next.Refuses refusal) = Only (at_once (ByRefusal refusal))
 ComesNext (next.Gives outcome) = Only (fine (steps_of outcome.files outcome.text))
 ComesNext (next.Visits request) = Only (at_once (ByVisit (visit_of request)))
 ComesNext (next.Lives start) = Only (at_once (ByLive (plain_live start)))
-ComesNext (next.Reflects reflection) = Only (at_once (ByReflecting (plain_reflection reflection)))
+ComesNext (next.Reflects reflection) = OfReady (plain_reflection reflection)
 ComesNext (next.Keeps keeping) = Only (at_once (ByKeeping (plain_keeping keeping)))
 ComesNext (next.Drills request) = Only (at_once (ByDrill request))
 ComesNext next.WantOfMemory = Only (at_once ByWant)

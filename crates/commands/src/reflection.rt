@@ -6,7 +6,7 @@ ghost use Rattle.model_value.specs.View.{plain};
 ghost use Rattle.session_log.specs.Stored.{IsStored, plain_stored};
 ghost use Rattle.session_journal.specs.State.{founded as founded_session};
 ghost use Rattle.commands.specs.Keeping.{OfFounding, OfFoundingLog, founded_with};
-ghost use Rattle.commands.specs.Verdict.{ByKeeping, ByReflecting, Free, OfJson, OfLog, OfPersisted, OfProgram, OfReflect, OfReflected, OfServed, OfUnkept, Only, at_once, keeping_of, reflection_of, session_id_of};
+ghost use Rattle.commands.specs.Verdict.{ByKeeping, Free, OfJson, OfLog, OfPersisted, OfProgram, OfReady, OfReflect, OfReflected, OfServed, OfUnkept, Only, at_once, keeping_of, reflection_of, session_id_of};
 ghost use Rattle.commands.specs.Work.{IsBoundedNext, IsBoundedWait, Leads, file_of, files_left, input_of, next_of, plain_keeping, plain_source, reads_left};
 ghost use Rattle.commands.specs.declared.work.Waiting.TheVariants as waiting;
 
@@ -64,7 +64,7 @@ pub enum ReflectWait {
 /// The session that is to be reflected. The memory for its log is taken here, before anything listens.
 fn reflect(alloc: Global, request: ReflectRequest, id: SessionId, opening: Session) -> Next
     requires words { IsBoundedReflect request }
-    ensures leads { Leads result (Free (Only (at_once (ByReflecting (reflection_of request id.0 opening.plain))))) }
+    ensures leads { Leads result (Free (OfReady (reflection_of request id.0 opening.plain))) }
     ensures bounded { IsBoundedNext result }
     ensures fewer { reads_left result < 1 }
 {

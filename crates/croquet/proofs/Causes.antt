@@ -1,6 +1,6 @@
 -- A join ends with its links, refused, or by its peer only where its links caused it.
 use Rattle.std.proofs.Common.{◌≡◌, inl, inr, ℕ, List, Option, Some, None, refl, sym, subst, ◌∙◌, codes}
-use Rattle.run_steps.specs.Steps.{Step, Loads, Puts, Prints}
+use Rattle.run_steps.specs.Steps.{Step, Loads, Puts, Looks, Prints}
 use Rattle.run_steps.specs.Outside.{Came, Cut, Failed, LinksTell, FilesTell, NetTells, Outside, OutputTells, WantedMemory, Well, outside_tells}
 use Rattle.view_shell.specs.declared.ending.ViewEnd.{ViewEnd}
 use Rattle.view_shell.specs.declared.ending.ViewEnd.TheVariants as view_end
@@ -43,6 +43,7 @@ end_links out view_end.WantOfMemory w w' result told = memory_links out view_end
 fault_links : {W : Type 0} (out : OutputTells W) (end : ViewEnd) (step : Step) (w w' : W) (result : Status) → TellsEnding out (failed_ending step) w w' result → TellsLinks result end
 fault_links out end (Loads ask given) w w' result told = line_links out end (codes "read-fault\n") status.ReadFault w w' result tt told
 fault_links out end (Puts name bytes) w w' result told = line_links out end (codes "write-fault\n") status.WriteFault w w' result tt told
+fault_links out end (Looks name) w w' result told = line_links out end (codes "write-fault\n") status.WriteFault w w' result tt told
 fault_links out end (Prints text) w w' result told = subst (λ (s : Status). TellsLinks s end) (sym told.1) tt
 fault_links out end other w w' result told = line_links out end (codes "net-fault\n") status.NetFault w w' result tt told
 

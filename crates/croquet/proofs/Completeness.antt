@@ -2,7 +2,7 @@
 use Rattle.std.proofs.Common.{◌≡◌, ◌⊎◌, inl, inr, ℕ, ℤ, ◌≤◌, Bool, true, false, List, [], ◌∷◌, length, replicate, Option, Some, None, Result, Ok, Err, refl, sym, subst}
 use Rattle.tea_base.specs.declared.want.WantOfMemory.{WantOfMemory}
 use Rattle.tea_io.specs.Told.{Rose}
-use Rattle.run_steps.specs.Steps.{Step, Puts, Prints}
+use Rattle.run_steps.specs.Steps.{Step, Puts, Prints, Looks}
 use Rattle.run_steps.specs.Outside.{Acts, Cut, FilesTell, LinksTell, NetTells, Outside, OutputTells, WantedMemory, outside_tells}
 use Rattle.command_words.specs.declared.words.Command.{Command}
 use Rattle.command_words.specs.declared.words.Command.TheVariants.{Stamp, Check, Replay, Inspect, Trace, Votes, Hub, Join, Live, Reflect, Drill}
@@ -13,7 +13,9 @@ use Rattle.snapshot_codec.specs.Spelling.{world_spelling}
 use Rattle.world.specs.Worlds.{replay}
 use Rattle.reflector_core.specs.PlainSession.{PlainSession}
 use Rattle.reflector_core.specs.Stored.{stored_of}
-use Rattle.reflect_server.specs.Reflects.{CountsFailure}
+use Rattle.tea_io.specs.declared.net.NetFault.{NetFault}
+use Rattle.tea_io.specs.declared.net.NetFault.TheVariants as net_fault
+use Rattle.reflect_server.specs.Rounds.{CountsStop}
 use Rattle.reflect_server.specs.declared.reflection.Reflected.{Reflected}
 use Rattle.reflect_server.specs.declared.reflection.ServeFault.{ServeFault}
 use Rattle.reflect_server.specs.declared.reflection.ServeFault.TheVariants as serve_fault
@@ -24,7 +26,7 @@ use Rattle.drill.specs.Drill.{drill_id}
 use Rattle.drill.specs.Ending.{root_total}
 use Rattle.drill.specs.declared.report.DrillReport.{DrillReport}
 use Rattle.commands.specs.Laws.{AreAlike, IsFunction, TellsPlace}
-use Rattle.commands.specs.Verdict.{ByDrill, ByReflecting, ByVisit, ByWant, Closing, Coming, Comes, Fine, Free, OfEnds, OfWords, Only, PlainReflection, PlainVisit, Verdict, fine}
+use Rattle.commands.specs.Verdict.{ByDrill, ByReflecting, ByVisit, ByWant, Closing, Coming, Comes, Fine, Free, OfEnds, OfWords, Only, PlainReflection, PlainVisit, Verdict, fine, reflected_verdict}
 use Rattle.commands.specs.Work.{AsksNoLive, NamesNoJournal}
 use Rattle.commands.proofs.NetLaws.{never_keeps, never_lives}
 use Rattle.journal_store.specs.Stores.{StoresTell}
@@ -50,8 +52,17 @@ want_alike (step ∷ steps) = refl
 same_alike : (steps : List Step) → IsGiving steps → AreAlike steps Fine steps Fine
 same_alike [] gives = inl refl
 same_alike (Puts name bytes ∷ steps) gives = (refl, same_alike steps gives)
+same_alike (Looks name ∷ steps) gives = (refl, same_alike steps gives)
 same_alike (Prints text ∷ steps) gives = (refl, same_alike steps gives)
 same_alike (step ∷ steps) never = absurd never
+
+-- memory may be wanted behind all of them
+short_alike : (steps : List Step) → IsGiving steps → AreAlike steps Fine steps ByWant
+short_alike [] gives = inr (inr (inl refl))
+short_alike (Puts name bytes ∷ steps) gives = (refl, short_alike steps gives)
+short_alike (Looks name ∷ steps) gives = (refl, short_alike steps gives)
+short_alike (Prints text ∷ steps) gives = (refl, short_alike steps gives)
+short_alike (step ∷ steps) never = absurd never
 
 free_alike : (steps : List Step) (verdict : Verdict) → IsGiving steps → Free (Only (fine steps)) verdict → AreAlike steps Fine verdict.steps verdict.closing
 free_alike steps verdict gives (inl want) = subst (λ (v : Verdict). AreAlike steps Fine v.steps v.closing) (sym want) (want_alike steps)
@@ -64,13 +75,22 @@ reflected_steps log ends session = steps_of (optional_put log (reflected_bytes s
 reflected_gives : (log : Option (List ℕ)) (ends : List Ended) (session : PlainSession) → IsGiving (reflected_steps log ends session)
 reflected_gives log ends session = giving (optional_put log (reflected_bytes session)) (reflected_text ends session)
 
+-- the text was printed, and nothing failed
+text_alike : (ends : List Ended) (session : PlainSession) (stopped : Option NetFault) (verdict : Verdict) → (stopped ≡ Some net_fault.Failed → ⊥) → Free (Only (reflected_verdict ends session false stopped)) verdict
+    → AreAlike (Prints (reflected_text ends session) ∷ []) Fine verdict.steps verdict.closing
+text_alike ends session None verdict fine comes = free_alike (Prints (reflected_text ends session) ∷ []) verdict tt comes
+text_alike ends session (Some net_fault.Failed) verdict fine comes = absurd (fine refl)
+text_alike ends session (Some net_fault.WantOfMemory) verdict fine (inl want) =
+    subst (λ (v : Verdict). AreAlike (Prints (reflected_text ends session) ∷ []) Fine v.steps v.closing) (sym want) (want_alike (Prints (reflected_text ends session) ∷ []))
+text_alike ends session (Some net_fault.WantOfMemory) verdict fine (inr is) =
+    subst (λ (v : Verdict). AreAlike (Prints (reflected_text ends session) ∷ []) Fine v.steps v.closing) (sym is) (short_alike (Prints (reflected_text ends session) ∷ []) tt)
+
 reflected_alike
-    : (log : Option (List ℕ)) (ends : List Ended) (session : PlainSession) (verdict : Verdict) → OfEnds log ends session false false verdict
+    : (log : Option (List ℕ)) (ends : List Ended) (session : PlainSession) (stopped : Option NetFault) (verdict : Verdict) → (stopped ≡ Some net_fault.Failed → ⊥) → OfEnds log ends session false stopped verdict
     → AreAlike (reflected_steps log ends session) Fine verdict.steps verdict.closing
-reflected_alike None ends session verdict comes = free_alike (Prints (reflected_text ends session) ∷ []) verdict tt comes
-reflected_alike (Some name) ends session verdict (rest, is, comes) =
-    let text : List Step = Prints (reflected_text ends session) ∷ [] in
-    subst (λ (v : Verdict). AreAlike (reflected_steps (Some name) ends session) Fine v.steps v.closing) (sym is) (refl, free_alike text rest tt comes)
+reflected_alike None ends session stopped verdict fine comes = text_alike ends session stopped verdict fine comes
+reflected_alike (Some name) ends session stopped verdict fine (rest, is, comes) =
+    subst (λ (v : Verdict). AreAlike (reflected_steps (Some name) ends session) Fine v.steps v.closing) (sym is) (refl, text_alike ends session stopped rest fine comes)
 
 -- and of a drill
 
@@ -189,20 +209,27 @@ module _ {F W N L : Type 0} (files : FilesTell F) (out : OutputTells W) (net : N
         none_within files out net links old served new new
         (counts_on files out net links old ready served first (net_moves files out net links ready served served.net ready.link later is)) (counts_stay files out net links new new refl) none
 
+    rose_at : (stopped : Option NetFault) → stopped ≡ Some net_fault.Failed → CountsStop (net.faults ready.net) (net.faults served.net) stopped → Rose (net.faults ready.net) (net.faults served.net)
+    rose_at stopped failed counts = (subst (CountsStop (net.faults ready.net) (net.faults served.net)) failed counts).1
+
+    later_at : (stopped : Option NetFault) → CountsStop (net.faults ready.net) (net.faults served.net) stopped → net.faults ready.net ≤ net.faults served.net
+    later_at None counts = counts
+    later_at (Some net_fault.Failed) counts = counts.0
+    later_at (Some net_fault.WantOfMemory) counts = counts
+
     told
-        : (log : Option (List ℕ)) (ends : List Ended) (session : PlainSession) (failed : Bool) (coming : Coming) → ((v : Verdict) → coming v → OfEnds log ends session false failed v)
-        → CountsFailure (net.faults ready.net) (net.faults served.net) failed → served ≡ record ready { net = served.net }
+        : (log : Option (List ℕ)) (ends : List Ended) (session : PlainSession) (stopped : Option NetFault) (coming : Coming) → ((v : Verdict) → coming v → OfEnds log ends session false stopped v)
+        → CountsStop (net.faults ready.net) (net.faults served.net) stopped → served ≡ record ready { net = served.net }
         → (ran : RanBySteps (outside_tells files out net links) coming served new result) → CountsStay files out net served new → IsDone result
-    told log ends session true coming leads rose is ran last = absurd (net_is_fine last rose)
-    told log ends session false coming leads later is ran last =
+    told log ends session stopped coming leads counts is ran last =
         done_alike (reflected_steps log ends session) coming served new result ran (reflected_gives log ends session)
-        (reflected_alike log ends session ran.course.verdict (leads ran.course.verdict ran.course.comes)) (none_behind later is)
+        (reflected_alike log ends session stopped ran.course.verdict (λ failed. net_is_fine last (rose_at stopped failed counts)) (leads ran.course.verdict ran.course.comes)) (none_behind (later_at stopped counts) is)
 
     answered
         : (reflection : PlainReflection) (answer : Result Reflected ServeFault) → ServesNet gives (outside_tells files out net links) reflection answer ready served
         → (ran : RanBySteps (outside_tells files out net links) (OfReflected reflection.log answer) served new result) → CountsStay files out net served new → IsDone result
     answered reflection (Ok reflected) serves ran last =
-        told reflection.log reflected.ends reflected.session.plain reflected.net_failed (OfReflected reflection.log (Ok reflected)) (λ v comes. comes) serves.0.faults serves.1 ran last
+        told reflection.log reflected.ends reflected.session.plain reflected.stopped (OfReflected reflection.log (Ok reflected)) (λ v comes. comes) serves.0.faults serves.1 ran last
     answered reflection (Err serve_fault.ListenFault) serves ran last = absurd (net_is_fine last serves.0.faults)
     answered reflection (Err serve_fault.WantOfMemory) serves ran last =
         done_giving [] (OfReflected reflection.log (Err serve_fault.WantOfMemory)) served new result ran tt (inl ran.course.comes) (none_behind serves.0.faults serves.1)

@@ -1,7 +1,7 @@
 -- The counts of a run's faults: none falls, and what is told where none has risen.
 use Rattle.std.proofs.Common.{◌≡◌, ◌⊎◌, inl, inr, ℕ, ◌≤◌, List, [], ◌∷◌, Option, Some, None, refl, sym, ap, subst, arith, codes}
 use Rattle.tea_io.specs.Told.{Rose}
-use Rattle.run_steps.specs.Steps.{Step, Loads, Puts, Prints, Connects, Returns, Hears, Sends}
+use Rattle.run_steps.specs.Steps.{Step, Loads, Puts, Looks, Prints, Connects, Returns, Hears, Sends}
 use Rattle.run_steps.specs.Outside.{Acts, ActsOn, Came, CountsFault, Cut, Failed, FilesTell, GivesBack, GoesBackFrom, LinksTell, NetTells, Outside, OutputTells, PrintsText, WantedMemory, Well, outside_tells}
 use Rattle.view_shell.specs.declared.ending.ViewEnd.{ViewEnd}
 use Rattle.view_shell.specs.declared.ending.ViewEnd.TheVariants as view_end
@@ -156,6 +156,7 @@ module _ {F W N L : Type 0} (files : FilesTell F) (out : OutputTells W) (net : N
   pub step_keeps : (came : Came) (step : Step) (old new : Outside F W N L) → ActsOn (outside_tells files out net links) came step old new → CountsStay files out net old new
   step_keeps came (Loads ask given) old new (reads, is) = files_move old new new.files (counted came _ _ reads.counted) is
   step_keeps came (Puts name bytes) old new (puts, is) = files_move old new new.files (counted came _ _ puts.counted) is
+  step_keeps came (Looks name) old new (looks, is) = files_move old new new.files (counted came _ _ looks.counted) is
   step_keeps came (Prints text) old new (prints, is) = output_moves old new new.out (counted came _ _ prints.counted) is
   step_keeps came (Connects address) old new (free, makes, is) = net_moves old new new.net new.link makes.cause.later is
   step_keeps came Returns old new (well, back, is) = net_moves old new new.net None (given_back old.link _ _ back) is

@@ -4,7 +4,7 @@ use Rattle.tea_io.specs.Told.{Rose}
 use Rattle.tea_io.specs.Links.{Counts}
 use Rattle.tea_io.specs.Nets.{sum_of}
 use Rattle.tea_io.specs.declared.link.Heard.{Heard}
-use Rattle.run_steps.specs.Steps.{Step, Loads, Puts, Prints, Connects, Returns, Hears, Sends}
+use Rattle.run_steps.specs.Steps.{Step, Loads, Puts, Looks, Prints, Connects, Returns, Hears, Sends}
 use Rattle.run_steps.specs.Outside.{Acts, ActsOn, Came, Cut, Failed, FilesTell, GivesBack, GoesBackFrom, HearsLink, LinksTell, NetTells, OnLink, Outside, OutputTells, SendsFrame, TakesBack, WantedMemory, Well, outside_tells}
 use Rattle.croquet.specs.Complete.{NoneFailed}
 use Rattle.croquet.proofs.Counts.{counts_stay, none_within, step_keeps}
@@ -54,6 +54,7 @@ module _ {F W N L : Type 0} (files : FilesTell F) (out : OutputTells W) (net : N
   step_lowers_none : (came : Came) (step : Step) (old new : Outside F W N L) → ActsOn (outside_tells files out net links) came step old new → IsNoLower (faults old) (faults new)
   step_lowers_none came (Loads ask given) old new (reads, is) = net_kept old new old.net refl (ap (λ (o : Outside F W N L). o.net) is)
   step_lowers_none came (Puts name bytes) old new (puts, is) = net_kept old new old.net refl (ap (λ (o : Outside F W N L). o.net) is)
+  step_lowers_none came (Looks name) old new (looks, is) = net_kept old new old.net refl (ap (λ (o : Outside F W N L). o.net) is)
   step_lowers_none came (Prints text) old new (prints, is) = net_kept old new old.net refl (ap (λ (o : Outside F W N L). o.net) is)
   step_lowers_none came (Connects address) old new (free, makes, is) = same_count _ _ (ap (λ (c : Counts). c.faults) makes.counts)
   step_lowers_none came Returns old new (well, back, is) = given_back old.link old.net new.net back
@@ -78,6 +79,7 @@ module _ {F W N L : Type 0} (files : FilesTell F) (out : OutputTells W) (net : N
   step_failed : (step : Step) (old new : Outside F W N L) → ActsOn (outside_tells files out net links) Failed step old new → NoneFailed files out net old new → HasFailed links new.link
   step_failed (Loads ask given) old new acts none = absurd (none.of_files acts.0.counted.1)
   step_failed (Puts name bytes) old new acts none = absurd (none.of_files acts.0.counted.1)
+  step_failed (Looks name) old new acts none = absurd (none.of_files acts.0.counted.1)
   step_failed (Prints text) old new acts none = absurd (none.of_output acts.0.counted.1)
   step_failed (Connects address) old new acts none = absurd (none.of_net (acts.1.cause.failed refl))
   step_failed Returns old new (never, back, is) none = absurd cc

@@ -1,5 +1,6 @@
 -- A live view's run ends with its links, refused, by its peer, or by a fault of the net only where its links caused it.
-use Rattle.std.proofs.Common.{◌≡◌, inl, inr, ℕ, List, [], ◌∷◌, ◌++◌, append-nil, Option, Some, None, refl, sym, ap, subst, ◌∙◌, codes}
+use Rattle.std.proofs.Common.{◌≡◌, inl, inr, ℕ, Bool, true, List, [], ◌∷◌, ◌++◌, append-nil, Option, Some, None, refl, sym, ap, subst, ◌∙◌, codes}
+use Rattle.std.specs.Prelude.{◌&&◌}
 use Rattle.run_steps.specs.Outside.{Came, Failed, FilesTell, LinksTell, NetTells, Outside, OutputTells, WantedMemory, Well, outside_tells}
 use Rattle.view_shell.specs.declared.ending.ViewEnd.{ViewEnd}
 use Rattle.view_shell.specs.declared.ending.ViewEnd.TheVariants as view_end
@@ -8,8 +9,9 @@ use Rattle.live_view.specs.declared.input.LiveInput.{LiveInput}
 use Rattle.live_view.specs.Live.{LiveState, live_run, live_step}
 use Rattle.live_shell.specs.declared.ending.LiveEnd.{LiveEnd}
 use Rattle.live_shell.specs.declared.ending.LiveEnd.TheVariants as live_end
-use Rattle.live_shell.specs.LiveRun.{EndsLive, IsLiveCutEnd, LiveRan, Turn, asks_last, inputs_in, state_after, steps_of}
+use Rattle.live_shell.specs.LiveRun.{AreFit, EndsLive, IsLiveCutEnd, LiveRan, Turn, asks_last, inputs_in, state_after, steps_of}
 use Rattle.live_shell.specs.LiveSteps.{Asks, FeedTells, Hears, Links, LiveActs, LiveCut, LiveOutside, LiveStep, LiveTells, Pauses, Prints, Returns, Sends, live_tells}
+use Rattle.view_follows.specs.LiveAnswers.{AnsweredLiveViewsHaveNoFault, AnsweredLiveViewsReplay}
 use Rattle.view_follows.specs.LiveEnds.{LiveViewsEndByFaults, LiveViewsEndByPeers, LiveViewsEndByRefusals, LiveViewsEndWithLinks}
 use Rattle.commands.specs.Verdict.{Coming, PlainLive}
 use Rattle.croquet.specs.declared.status.Status.{Status}
@@ -20,6 +22,7 @@ use Rattle.croquet.specs.Run.{RanAsLive, Tells, TellsEnding, TellsMemory, live_e
 
 -- the end of a live view that such a status tells
 abbrev TellsLive : Status → LiveEnd → Type 0
+TellsLive status.Ok end = end ≡ live_end.View view_end.Done
 TellsLive status.Ended end = end ≡ live_end.View view_end.Ended
 TellsLive status.Refused end = (code kept : ℕ) × (end ≡ live_end.View (view_end.Refused code kept))
 TellsLive status.Peer end = end ≡ live_end.View view_end.Peer
@@ -37,7 +40,7 @@ line_live out end line given w w' result live (inr (inl (prints, is))) = subst (
 line_live out end line given w w' result live (inr (inr (mid, prints, told))) = memory_live out end mid w' result told
 
 end_live : {W : Type 0} (out : OutputTells W) (end : LiveEnd) (w w' : W) (result : Status) → TellsEnding out (live_ending end) w w' result → TellsLive result end
-end_live out (live_end.View view_end.Done) w w' result told = subst (λ (s : Status). TellsLive s (live_end.View view_end.Done)) (sym told.1) tt
+end_live out (live_end.View view_end.Done) w w' result told = subst (λ (s : Status). TellsLive s (live_end.View view_end.Done)) (sym told.1) refl
 end_live out (live_end.View (view_end.Refused code kept)) w w' result told = line_live out (live_end.View (view_end.Refused code kept)) (refused_line code kept) status.Refused w w' result (code, kept, refl) told
 end_live out (live_end.View view_end.NetFault) w w' result told = line_live out (live_end.View view_end.NetFault) (codes "net-fault\n") status.NetFault w w' result refl told
 end_live out (live_end.View view_end.Ended) w w' result told = line_live out (live_end.View view_end.Ended) (codes "ended\n") status.Ended w w' result refl told
@@ -82,6 +85,18 @@ cut_over other none not last told None end is ends = uncut_over other not last t
 cut_over other none not last None (Some cut) end is ends = absurd (never_cut other none cut.came cut.step end is ends)
 cut_over other none not last (Some told) (Some cut) end is ends = absurd (never_cut other none cut.came cut.step end is ends)
 
+-- no call cut a run that ends so
+no_cut : (other : ViewEnd) → IsNoCut other → (last : Phase) (told : Option LiveInput) (cut : Option LiveCut) (end : LiveEnd) → end ≡ live_end.View other → EndsLive last told cut end → cut ≡ None
+no_cut other none last told None end is ends = refl
+no_cut other none last None (Some cut) end is ends = absurd (never_cut other none cut.came cut.step end is ends)
+no_cut other none last (Some told) (Some cut) end is ends = absurd (never_cut other none cut.came cut.step end is ends)
+
+-- the frames that were sent in turns are those of what was told in them
+fit_told : (s : LiveState) (turns : List Turn) → AreFit s turns → (live_run s (inputs_in turns)).fit ≡ true
+fit_told s [] fit = refl
+fit_told s (None ∷ turns) fit = fit_told s turns fit
+fit_told s (Some told ∷ turns) (is, fit) = ap (λ (b : Bool). b && (live_run (live_step s told).state (inputs_in turns)).fit) is ∙ fit_told (live_step s told).state turns fit
+
 -- the phase after turns is that after what was told in them
 turns_told : (s : LiveState) (turns : List Turn) → (live_run s (inputs_in turns)).phase ≡ (state_after s turns).phase
 turns_told s [] = refl
@@ -90,7 +105,7 @@ turns_told s (Some told ∷ turns) = turns_told (live_step s told).state turns
 
 -- ---- the law
 
-module _ (ended : LiveViewsEndWithLinks) (refused : LiveViewsEndByRefusals) (failed : LiveViewsEndByFaults) (peer : LiveViewsEndByPeers) where
+module _ (ended : LiveViewsEndWithLinks) (refused : LiveViewsEndByRefusals) (failed : LiveViewsEndByFaults) (peer : LiveViewsEndByPeers) (answered : AnsweredLiveViewsHaveNoFault) (replays : AnsweredLiveViewsReplay) where
   -- a run that was not cut ends with a fault of the net only where a step told of one
   module _ {K W N L : Type 0} (tells : LiveTells K W N L) (live : PlainLive) where
     uncut_fault : (turns : List Turn) (old mid : LiveOutside K W N L) → LiveActs tells (steps_of live.address (first_of live) turns) None old mid → (state_after (first_of live) turns).phase ≡ Over view_end.NetFault → HasFault tells old.net mid
@@ -131,6 +146,14 @@ module _ (ended : LiveViewsEndWithLinks) (refused : LiveViewsEndByRefusals) (fai
           peer = λ well is.
               peer live.founding live.id live.view live.address (inputs_in stopped.turns) well
               (phase ∙ cut_over view_end.Peer tt (λ same. cc) _ stopped.last stopped.cut end (subst (λ (s : Status). TellsLive s end) is told) stopped.ends);
+          answered = λ log live_is is.
+              answered live.founding live.id live.view live.address log (inputs_in stopped.turns) live_is
+              (fit_told (first_of live) stopped.turns (stopped.fit (no_cut view_end.Peer tt _ stopped.last stopped.cut end (subst (λ (s : Status). TellsLive s end) is told) stopped.ends)))
+              (phase ∙ cut_over view_end.Peer tt (λ same. cc) _ stopped.last stopped.cut end (subst (λ (s : Status). TellsLive s end) is told) stopped.ends);
+          replays = λ log live_is is.
+              replays live.founding live.id live.view live.address log (inputs_in stopped.turns) live_is
+              (fit_told (first_of live) stopped.turns (stopped.fit (no_cut view_end.Done tt _ stopped.last stopped.cut end (subst (λ (s : Status). TellsLive s end) is told) stopped.ends)))
+              (phase ∙ cut_over view_end.Done tt (λ same. cc) _ stopped.last stopped.cut end (subst (λ (s : Status). TellsLive s end) is told) stopped.ends);
           failed = λ is. ran_fault end old new ran (subst (λ (s : Status). TellsLive s end) is told);
         }
 

@@ -55,6 +55,8 @@ module _ {K W N L : Type 0} (tells : LiveTells K W N L) (address : List ℕ) (fi
           acts = stopped.acts;
           ends = ends_wanting _ stopped.last stopped.cut code kept stopped.ends;
           fair = stopped.fair;
+          wants = stopped.wants;
+          fit = stopped.fit;
         };
         back = ran.back;
       }
@@ -89,7 +91,7 @@ module _ {K W N L : Type 0} (feed : FeedTells K) (out : OutputTells W) (net : Ne
     said = w;
     ran = record {
       mid = live_outside k w n None;
-      stopped = record { turns = []; last = None; cut = None; acts = refl; ends = inr refl; fair = tt };
+      stopped = record { turns = []; last = None; cut = None; acts = refl; ends = inr refl; fair = tt; wants = tt; fit = λ none. tt };
       back = (refl, refl);
     };
     told = told;

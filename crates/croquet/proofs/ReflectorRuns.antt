@@ -1,6 +1,8 @@
 -- The run of a reflector, and what is told behind it.
-use Rattle.std.proofs.Common.{◌≡◌, inl, inr, ℕ, Bool, true, false, List, [], ◌∷◌, Option, Some, None, Result, Err, refl, subst}
+use Rattle.std.proofs.Common.{◌≡◌, inl, inr, ℕ, Bool, true, false, List, [], ◌∷◌, Option, Some, None, Result, Ok, Err, refl, ap, ◌∙◌, subst}
 use Rattle.tea_io.specs.declared.net.NetCall.TheVariants.{Listen}
+use Rattle.tea_io.specs.declared.net.NetFault.{NetFault}
+use Rattle.tea_io.specs.declared.net.NetFault.TheVariants as net_fault
 use Rattle.connection.specs.declared.ending.Ended.{Ended}
 use Rattle.reflector_core.specs.PlainSession.{PlainSession}
 use Rattle.reflect_server.specs.Reflects.{Reflects}
@@ -10,52 +12,53 @@ use Rattle.reflect_server.specs.declared.reflection.ServeFault.{ServeFault}
 use Rattle.reflect_server.specs.declared.reflection.ServeFault.TheVariants.{ListenFault, WantOfMemory}
 use Rattle.reflect_server.specs.declared.reflection.KeptFault.{KeptFault}
 use Rattle.reflect_server.specs.declared.reflection.KeptFault.TheVariants as kept_fault
-use Rattle.run_steps.specs.Steps.{Step, Prints, Puts}
-use Rattle.run_steps.specs.Outside.{Acts, Came, Failed, WantedMemory, Well, FilesTell, OutputTells, PutsFile, NetTells, LinksTell, desk, desk_tells, outside, outside_tells}
+use Rattle.run_steps.specs.Steps.{Step, Looks, Prints, Puts}
+use Rattle.run_steps.specs.Outside.{Acts, Came, Failed, WantedMemory, Well, FilesTell, LooksAt, OutputTells, PutsFile, NetTells, LinksTell, desk, desk_tells, outside, outside_tells}
 use Rattle.run_steps.proofs.Beside.{all_beside_net}
 use Rattle.command_outcome.specs.declared.outcome.Put.{Put}
 use Rattle.command_reflect.specs.ReflectedSteps.{reflected_text}
-use Rattle.commands.specs.Verdict.{ByNetFault, ByReflecting, ByWant, ByWriteFault, Coming, Free, Only, PlainReflection, Then, at_once, before, reflected_closing, reflected_verdict}
+use Rattle.commands.specs.Verdict.{Closing, OfLooked, OfReady, ByNetFault, ByReflecting, ByWant, ByWriteFault, Coming, Free, Only, PlainReflection, Then, at_once, before, reflected_closing, reflected_verdict}
 use Rattle.croquet.specs.declared.status.Status.{Status}
-use Rattle.croquet.specs.Calls.{TellsUnput, fault_ending, kept_fault_ending, reflected_ending}
+use Rattle.croquet.specs.Calls.{LooksOrEnds, TellsNoPlace, TellsUnput, fault_ending, kept_fault_ending, reflected_ending}
 use Rattle.croquet.specs.Run.{Concludes, Ending, on_net_fault, on_write_fault, OutOfMemory, OfKept, OfReflected, RanAsReflector, Reaches, TellsCut, TellsEnding}
 use Rattle.croquet.proofs.Acts.{DoesAll, does_so}
 use Rattle.croquet.proofs.Runs.{RanSo, later, ran_closed}
 use Rattle.croquet.proofs.VisitRuns.{ran_beside}
 
-concludes : (unkept net_failed : Bool) → Concludes (reflected_closing unkept net_failed) [] (reflected_ending unkept net_failed)
-concludes true net_failed = (refl, refl)
-concludes false true = (refl, refl)
-concludes false false = (refl, refl)
+concludes : (unkept : Bool) (stopped : Option NetFault) → Concludes (reflected_closing unkept stopped) [] (reflected_ending unkept stopped)
+concludes true stopped = (refl, refl)
+concludes false None = (refl, refl)
+concludes false (Some net_fault.Failed) = (refl, refl)
+concludes false (Some net_fault.WantOfMemory) = (refl, refl)
 
 -- what was done with the text of a session, to the end of the run or to a cut
-module _ {F W : Type 0} (files : FilesTell F) (out : OutputTells W) (ends : List Ended) (session : PlainSession) (unkept net_failed : Bool) (steps : List Step) (same : steps ≡ Prints (reflected_text ends session) ∷ []) (f f' : F) (w w' : W) (result : Status) where
-  ran_with : DoesAll files out steps (reflected_ending unkept net_failed) f w f' w' result → RanSo files out (Free (Only (reflected_verdict ends session unkept net_failed))) f w f' w' result
+module _ {F W : Type 0} (files : FilesTell F) (out : OutputTells W) (ends : List Ended) (session : PlainSession) (unkept : Bool) (stopped : Option NetFault) (steps : List Step) (same : steps ≡ Prints (reflected_text ends session) ∷ []) (f f' : F) (w w' : W) (result : Status) where
+  ran_with : DoesAll files out steps (reflected_ending unkept stopped) f w f' w' result → RanSo files out (Free (Only (reflected_verdict ends session unkept stopped))) f w f' w' result
   ran_with does = record {
     steps = Prints (reflected_text ends session) ∷ [];
-    ending = reflected_ending unkept net_failed;
+    ending = reflected_ending unkept stopped;
     course = record {
-      verdict = reflected_verdict ends session unkept net_failed;
+      verdict = reflected_verdict ends session unkept stopped;
       comes = inr refl;
       more = [];
-      concludes = concludes unkept net_failed;
+      concludes = concludes unkept stopped;
       all = refl;
     };
-    does = subst (λ (given : List Step). DoesAll files out given (reflected_ending unkept net_failed) f w f' w' result) same does;
+    does = subst (λ (given : List Step). DoesAll files out given (reflected_ending unkept stopped) f w f' w' result) same does;
   }
 
   -- the text was printed, or this was cut
-  pub ran_cut : ((ending : Ending) → DoesAll files out steps ending f w f' w' result) → RanSo files out (Free (Only (reflected_verdict ends session unkept net_failed))) f w f' w' result
-  ran_cut does = ran_with (does (reflected_ending unkept net_failed))
+  pub ran_cut : ((ending : Ending) → DoesAll files out steps ending f w f' w' result) → RanSo files out (Free (Only (reflected_verdict ends session unkept stopped))) f w f' w' result
+  ran_cut does = ran_with (does (reflected_ending unkept stopped))
 
 -- it was printed, and the end was told
-module _ {F W : Type 0} (files : FilesTell F) (out : OutputTells W) (ends : List Ended) (session : PlainSession) (unkept net_failed : Bool) (steps : List Step) (same : steps ≡ Prints (reflected_text ends session) ∷ []) (f f' : F) (w next w' : W) (result : Status) where
+module _ {F W : Type 0} (files : FilesTell F) (out : OutputTells W) (ends : List Ended) (session : PlainSession) (unkept : Bool) (stopped : Option NetFault) (steps : List Step) (same : steps ≡ Prints (reflected_text ends session) ∷ []) (f f' : F) (w next w' : W) (result : Status) where
   pub ran_told
-      : Acts (desk_tells files out) steps None (desk f w) (desk f' next) → TellsEnding out (reflected_ending unkept net_failed) next w' result
-      → RanSo files out (Free (Only (reflected_verdict ends session unkept net_failed))) f w f' w' result
+      : Acts (desk_tells files out) steps None (desk f w) (desk f' next) → TellsEnding out (reflected_ending unkept stopped) next w' result
+      → RanSo files out (Free (Only (reflected_verdict ends session unkept stopped))) f w f' w' result
   ran_told acts told =
-      ran_with files out ends session unkept net_failed steps same f f' w w' result
-      (does_so files out steps None (reflected_ending unkept net_failed) f f' w next w' result acts told)
+      ran_with files out ends session unkept stopped steps same f f' w w' result
+      (does_so files out steps None (reflected_ending unkept stopped) f f' w next w' result acts told)
 
 -- a file was put, and the run goes on after it
 pub ran_put
@@ -101,6 +104,50 @@ pub ran_unput
     → TellsUnput files out put f w f' w' result → RanSo files out (Then (Puts put.name put.bytes) (Free next)) f w f' w' result
 ran_unput files out put next f f' w w' result (inl (failed, told)) = cut_at_put files out put next Failed f f' w w' result (inr (inl ((failed, refl), refl))) told
 ran_unput files out put next f f' w w' result (inr (wanted, told)) = cut_at_put files out put next WantedMemory f f' w w' result (inr (inr ((wanted, refl), refl))) told
+
+-- ---- before anything listens
+
+-- the run has looked at the name of the log, if there is one, and goes on
+pub looked_on
+    : {F W : Type 0} (files : FilesTell F) (out : OutputTells W) (log : Option (List ℕ)) (closing : Closing) (f f' : F) (w w' : W)
+    → LooksOrEnds files out log (Ok tt) f w f' w' → Reaches (desk_tells files out) (OfLooked log (Only (at_once closing))) closing (desk f w) (desk f' w')
+looked_on files out None closing f f' w w' (same, quiet) = record { steps = []; comes = refl; acts = ap (λ (g : _). desk g w') same ∙ ap (desk f) quiet }
+looked_on files out (Some name) closing f f' w w' (looks, quiet) = record {
+  steps = Looks name ∷ [];
+  comes = (at_once closing, refl, inr refl);
+  acts = inl (desk f' w', (looks, ap (desk f') quiet), refl);
+}
+
+-- the run was cut at a look
+cut_at_look
+    : {F W : Type 0} (files : FilesTell F) (out : OutputTells W) (name : List ℕ) (next : Coming) (came : Came) (f f' : F) (w w' : W) (result : Status)
+    → Acts (desk_tells files out) (Looks name ∷ []) (Some (record { step = Looks name; came = came })) (desk f w) (desk f' w)
+    → TellsCut out came (Looks name) w w' result → RanSo files out (Then (Looks name) (Free next)) f w f' w' result
+cut_at_look files out name next came f f' w w' result acts told = record {
+  steps = Looks name ∷ [];
+  ending = OutOfMemory;
+  course = record {
+    verdict = before (Looks name) (at_once ByWant);
+    comes = (at_once ByWant, refl, inl refl);
+    more = [];
+    concludes = (refl, refl);
+    all = refl;
+  };
+  does = does_so files out (Looks name ∷ []) (Some (record { step = Looks name; came = came })) OutOfMemory f f' w w w' result acts told;
+}
+
+unlooked
+    : {F W : Type 0} (files : FilesTell F) (out : OutputTells W) (name : List ℕ) (next : Coming) (f f' : F) (w w' : W) (result : Status)
+    → TellsNoPlace files out name f w f' w' result → RanSo files out (Then (Looks name) (Free next)) f w f' w' result
+unlooked files out name next f f' w w' result (inl (failed, told)) = cut_at_look files out name next Failed f f' w w' result (inr (inl ((failed, refl), refl))) told
+unlooked files out name next f f' w w' result (inr (wanted, told)) = cut_at_look files out name next WantedMemory f f' w w' result (inr (inr ((wanted, refl), refl))) told
+
+-- the log cannot be put, and this was told
+pub ran_unlooked
+    : {F W : Type 0} (files : FilesTell F) (out : OutputTells W) (log : Option (List ℕ)) (next : Coming) (f f' : F) (w w' : W) (result : Status)
+    → LooksOrEnds files out log (Err result) f w f' w' → RanSo files out (OfLooked log next) f w f' w' result
+ran_unlooked files out None next f f' w w' result never = absurd never
+ran_unlooked files out (Some name) next f f' w w' result told = unlooked files out name next f f' w w' result told
 
 -- the fault of one that has no session to tell of was told
 pub ran_failed

@@ -1,7 +1,7 @@
 -- A run whose reads give what they are to give, and no call of which fails, comes to the end that is due, or runs out of memory.
 use Rattle.std.proofs.Common.{◌≡◌, inl, inr, ℕ, ◌≤◌, List, [], ◌∷◌, ◌++◌, length, Option, Some, None, refl, sym, ap, subst, ◌∙◌, arith}
 use Rattle.tea_io.specs.Files.{Content, MayBe, Present}
-use Rattle.run_steps.specs.Steps.{Ask, Step, Loads, Puts, Prints, Connects, Returns, Hears, Sends}
+use Rattle.run_steps.specs.Steps.{Ask, Step, Loads, Puts, Looks, Prints, Connects, Returns, Hears, Sends}
 use Rattle.run_steps.specs.Outside.{Acts, ActsOn, AreKept, Cut, Failed, FilesTell, IsLonger, LinksTell, MayGive, NetTells, Outside, OutputTells, WantedMemory, Well, outside_tells}
 use Rattle.commands.specs.Laws.{AreAlike, AreClosedAlike, AreDoneAlike, TellsPlace}
 use Rattle.commands.specs.Verdict.{ByWant, Closing}
@@ -18,24 +18,27 @@ pub record GivesHeld (held : List ℕ → Content) (ask : Ask) (given : Option (
   pub present : held ask.name ≡ Present bytes
   pub within : length bytes ≤ ask.limit
 
--- steps that put and print alone
+-- steps that look, put and print alone
 abbrev pub IsGiving : List Step → Type 0
 IsGiving [] = Unit {0}
 IsGiving (Puts name bytes ∷ steps) = IsGiving steps
+IsGiving (Looks name ∷ steps) = IsGiving steps
 IsGiving (Prints text ∷ steps) = IsGiving steps
 IsGiving (step ∷ steps) = ⊥
 
--- steps that read what is held, and then put and print
+-- steps that read what is held, and then look, put and print
 abbrev pub AreRight : (List ℕ → Content) → List Step → Type 0
 AreRight held [] = Unit {0}
 AreRight held (Loads ask given ∷ steps) = GivesHeld held ask given × AreRight held steps
 AreRight held (Puts name bytes ∷ steps) = IsGiving steps
+AreRight held (Looks name ∷ steps) = IsGiving steps
 AreRight held (Prints text ∷ steps) = IsGiving steps
 AreRight held (step ∷ steps) = ⊥
 
 pub giving_are_right : (held : List ℕ → Content) (steps : List Step) → IsGiving steps → AreRight held steps
 giving_are_right held [] giving = tt
 giving_are_right held (Puts name bytes ∷ steps) giving = giving
+giving_are_right held (Looks name ∷ steps) giving = giving
 giving_are_right held (Prints text ∷ steps) giving = giving
 giving_are_right held (step ∷ steps) never = absurd never
 
@@ -44,6 +47,7 @@ kept_right held later [] kept right = tt
 kept_right held later (Loads ask given ∷ steps) kept (gives, right) =
     (record { bytes = gives.bytes; is = gives.is; present = kept ask.name ∙ gives.present; within = gives.within }, kept_right held later steps kept right)
 kept_right held later (Puts name bytes ∷ steps) kept giving = giving
+kept_right held later (Looks name ∷ steps) kept giving = giving
 kept_right held later (Prints text ∷ steps) kept giving = giving
 kept_right held later (step ∷ steps) kept never = absurd never
 
@@ -60,6 +64,7 @@ gave_held held ask given told gives gave = gives.is ∙ sym (gave_bytes (held as
 loads_alike : (ask : Ask) (given : Option (List ℕ)) (other : Step) (alike : Type 0) → AreDoneAlike (Loads ask given) other alike → (told : Option (List ℕ)) × (other ≡ Loads ask told) × (given ≡ told → alike)
 loads_alike ask given (Loads asked told) alike (same, on) = (told, ap (λ (a : Ask). Loads a told) (sym same), on)
 loads_alike ask given (Puts name bytes) alike (never, on) = absurd cc
+loads_alike ask given (Looks name) alike (never, on) = absurd cc
 loads_alike ask given (Prints text) alike (never, on) = absurd cc
 loads_alike ask given (Connects address) alike (never, on) = absurd cc
 loads_alike ask given Returns alike (never, on) = absurd cc
@@ -72,6 +77,7 @@ loads_alike ask given (Sends frame) alike (never, on) = absurd cc
 abbrev pub IsOnDesk : Step → Type 0
 IsOnDesk (Loads ask given) = Unit {0}
 IsOnDesk (Puts name bytes) = Unit {0}
+IsOnDesk (Looks name) = Unit {0}
 IsOnDesk (Prints text) = Unit {0}
 IsOnDesk step = ⊥
 
@@ -79,6 +85,7 @@ module _ {F W N L : Type 0} (files : FilesTell F) (out : OutputTells W) (net : N
   not_failed : (step : Step) (old new : Outside F W N L) → IsOnDesk step → ActsOn (outside_tells files out net links) Failed step old new → NoneFailed files out net old new → ⊥
   not_failed (Loads ask given) old new on acts none = none.of_files acts.0.counted.1
   not_failed (Puts name bytes) old new on acts none = none.of_files acts.0.counted.1
+  not_failed (Looks name) old new on acts none = none.of_files acts.0.counted.1
   not_failed (Prints text) old new on acts none = none.of_output acts.0.counted.1
   not_failed (Connects address) old new on acts none = on
   not_failed Returns old new on acts none = on
@@ -131,6 +138,9 @@ module _ {F W N L : Type 0} (files : FilesTell F) (out : OutputTells W) (net : N
       goes_along (Puts name bytes ∷ right) (step ∷ steps) closing old are alike concludes acts none =
           one_step (Puts name bytes) (steps ++ more) old tt (subst (λ (s : Step). Acts (outside_tells files out net links) (s ∷ (steps ++ more)) cut old new) (sym alike.0) acts) none
           (λ mid puts rest left. goes_along right steps closing mid (giving_are_right (files.held mid.files) right are) alike.1 concludes rest left)
+      goes_along (Looks name ∷ right) (step ∷ steps) closing old are alike concludes acts none =
+          one_step (Looks name) (steps ++ more) old tt (subst (λ (s : Step). Acts (outside_tells files out net links) (s ∷ (steps ++ more)) cut old new) (sym alike.0) acts) none
+          (λ mid looks rest left. goes_along right steps closing mid (giving_are_right (files.held mid.files) right are) alike.1 concludes rest left)
       goes_along (Prints text ∷ right) (step ∷ steps) closing old are alike concludes acts none =
           one_step (Prints text) (steps ++ more) old tt (subst (λ (s : Step). Acts (outside_tells files out net links) (s ∷ (steps ++ more)) cut old new) (sym alike.0) acts) none
           (λ mid prints rest left. goes_along right steps closing mid (giving_are_right (files.held mid.files) right are) alike.1 concludes rest left)

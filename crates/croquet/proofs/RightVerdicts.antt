@@ -15,7 +15,7 @@ use Rattle.persist_json.specs.JsonOf.{IsJsonOf, most_json}
 use Rattle.tea_io.specs.Files.{Content}
 use Rattle.view_script.specs.PlainLine.{PlainLine}
 use Rattle.view_script.specs.ViewScript.{view_script_of}
-use Rattle.run_steps.specs.Steps.{Ask, Loads}
+use Rattle.run_steps.specs.Steps.{Ask, Loads, Looks}
 use Rattle.run_steps.specs.Outside.{FilesTell}
 use Rattle.command_outcome.specs.declared.outcome.Input.{Input}
 use Rattle.command_outcome.specs.declared.outcome.Input.TheVariants as input
@@ -44,7 +44,7 @@ use Rattle.tea_base.specs.Limits.{most_snapshot}
 use Rattle.command_hub.specs.declared.script.HubLine.{HubLine}
 use Rattle.command_hub.specs.HubScript.{hub_script_of}
 use Rattle.command_hub.specs.HubRun.{hub_puts, hub_run}
-use Rattle.commands.specs.Verdict.{ByDrill, ByKeeping, ByReflecting, ByVisit, Closing, Coming, Fine, OfFile, OfInspectedLog, OfInspect, OfJoin, OfJournal, OfKeyframes, OfOpening, OfProgram, OfQueries, OfReflect, OfRight, OfScript, OfServed, OfSnapshot, OfLog, OfOwn, OfReflected, IsLog, PlainReflection, PlainSource, first_source, names_no_other, trace_verdict, OfTimeLine, OfTrace, OfTraced, OfTracedLog, OfTree, OfUnkept, OfView, OfViewScript, OfWords, Only, Starts, Verdict, OfFounded, OfJson, OfPersisted, OfRecorded, ask_file, at_once, before, count_verdict, fine, founded, inspect_verdict, keeping_of, keeps_few, most_queries, most_script, reflection_of, session_id_of, stamp_verdict, visit_to, votes_verdict, world_puts, most_log, OfHubScript}
+use Rattle.commands.specs.Verdict.{ByDrill, ByKeeping, ByReflecting, ByVisit, Closing, Coming, Fine, OfFile, OfInspectedLog, OfInspect, OfJoin, OfJournal, OfKeyframes, OfOpening, OfProgram, OfQueries, OfReflect, OfRight, OfScript, OfServed, OfSnapshot, OfLog, OfOwn, OfReflected, IsLog, PlainReflection, PlainSource, first_source, names_no_other, trace_verdict, OfTimeLine, OfTrace, OfTraced, OfTracedLog, OfTree, OfUnkept, OfView, OfViewScript, OfWords, Only, Starts, Verdict, OfFounded, OfJson, OfPersisted, OfRecorded, ask_file, at_once, before, count_verdict, fine, founded, inspect_verdict, keeping_of, keeps_few, most_queries, most_script, reflection_of, session_id_of, stamp_verdict, visit_to, votes_verdict, world_puts, most_log, OfHubScript, OfLooked, OfReady}
 use Rattle.commands.proofs.Agreement.{late_verdict}
 use Rattle.croquet.specs.Complete.{HasRightInput, HoldsFile, HoldsInspection, HoldsOpening, HoldsPersisted, HoldsProgram, HoldsRecording, HoldsStart, HoldsTrace, IsJsonText, IsAny, IsLogText, IsOwn, IsQueriesText, IsHubScriptText, IsHubScriptText, IsScriptText, IsSnapshotUntil, IsProgramText, IsViewScriptText, NamesAddress, persisted_in}
 use Rattle.croquet.proofs.RightSteps.{AreRight, GivesHeld, IsGiving, giving_are_right}
@@ -92,6 +92,15 @@ module _ (held : List ℕ → Content) where
     reads = (gives, right.reads);
     closing = right.closing;
   }
+
+  -- the run looks at the name of the log, and then goes on
+  looked_right : (log : Option (List ℕ)) (closing : Closing) → ClosesWell closing → ComesRight held ClosesWell (OfLooked log (Only (at_once closing)))
+  looked_right None closing right = closed_right ClosesWell closing (Only (at_once closing)) right refl
+  looked_right (Some name) closing right =
+      record { verdict = before (Looks name) (at_once closing); comes = (at_once closing, refl, inr refl); reads = tt; closing = right }
+
+  ready_right : (reflection : PlainReflection) → ComesRight held ClosesWell (OfReady reflection)
+  ready_right reflection = looked_right reflection.log (ByReflecting reflection) tt
 
   stamp_right : (log : Option (List ℕ)) (requests : List Request) (opening : PlainSession) → ComesRight held ClosesWell (Only (stamp_verdict opening log requests))
   stamp_right log requests opening =
@@ -230,8 +239,7 @@ module _ {F : Type 0} (files : FilesTell F) (old : F) where
   reflected_right : (request : ReflectRequest) (id : List ℕ) (source : PlainSource) → IsOwn id source → ComesRight (files.held old) ClosesWell (OfReflected request id source)
   reflected_right request id source own =
       let reflection : PlainReflection = reflection_of request id (session_of source.stored) in
-      own_right (files.held old) ClosesWell source id (Only (at_once (ByReflecting reflection))) own
-      (closed_right (files.held old) ClosesWell (ByReflecting reflection) (Only (at_once (ByReflecting reflection))) tt refl)
+      own_right (files.held old) ClosesWell source id (OfReady reflection) own (ready_right (files.held old) reflection)
 
   reflect_right : (request : ReflectRequest) → request.journal ≡ None → (program : HoldsProgram files old request.program) → NamesAddress request.address → (persisted : HoldsPersisted files old request.persisted)
       → HoldsOpening files old request.from (IsOwn (session_id_of request.name program.bytes (persisted_in files old request.persisted persisted))) → ComesRight (files.held old) ClosesWell (OfWords (Some (Reflect request)))

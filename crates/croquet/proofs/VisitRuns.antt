@@ -1,7 +1,7 @@
 -- The run of a view, and a command that goes on as one.
 use Rattle.std.proofs.Common.{◌≡◌, ◌⊎◌, inl, inr, ◌++◌, List, [], Option, Some, None, refl, ap}
 use Rattle.std.specs.Prelude.{⊤}
-use Rattle.run_steps.specs.Steps.{Step, Loads, Puts, Prints, Connects, Returns, Hears, Sends}
+use Rattle.run_steps.specs.Steps.{Step, Loads, Puts, Looks, Prints, Connects, Returns, Hears, Sends}
 use Rattle.run_steps.specs.Outside.{Came, Well, Failed, WantedMemory, Cut, FilesTell, OutputTells, NetTells, LinksTell, Outside, GoesBackFrom, booth, booth_tells, desk, desk_tells, outside, outside_tells}
 use Rattle.run_steps.proofs.Beside.{acts_with_files, all_beside_net, all_with_files}
 use Rattle.run_steps.proofs.Joined.{acts_behind}
@@ -23,6 +23,7 @@ tells_cut out Well step end w w' result never told = absurd never
 tells_cut out WantedMemory step end w w' result is told = rw is at told
 tells_cut out Failed (Loads ask given) end w w' result never told = absurd never
 tells_cut out Failed (Puts name bytes) end w w' result never told = absurd never
+tells_cut out Failed (Looks name) end w w' result never told = absurd never
 tells_cut out Failed (Prints text) end w w' result is told = rw is at told
 tells_cut out Failed (Connects address) end w w' result is told = rw is at told
 tells_cut out Failed Returns end w w' result never told = absurd never

@@ -1,7 +1,9 @@
 -- What the parts of a run do, and what they tell.
-use Rattle.std.specs.Prelude.{◌⊎◌, ℕ, ⊤, Bool, true, false, List, None, Result, Ok, Err, codes, map}
+use Rattle.std.specs.Prelude.{◌≡◌, ◌⊎◌, ℕ, ⊤, Bool, true, false, List, Option, Some, None, Result, Ok, Err, codes, map}
+use Rattle.tea_io.specs.declared.net.NetFault.{NetFault}
+use Rattle.tea_io.specs.declared.net.NetFault.TheVariants as net_fault
 use Rattle.run_steps.specs.Steps.{Step}
-use Rattle.run_steps.specs.Outside.{Outside, OutsideTells, Failed, WantedMemory, FilesTell, OutputTells, PutsFile, Acts}
+use Rattle.run_steps.specs.Outside.{Outside, OutsideTells, Well, Failed, WantedMemory, FilesTell, LooksAt, OutputTells, PutsFile, Acts}
 use Rattle.tea_base.specs.declared.want.WantOfMemory.{WantOfMemory}
 use Rattle.snapshot_codec.specs.Spelling.{world_spelling}
 use Rattle.replica.specs.View.{ReplicaView}
@@ -42,6 +44,19 @@ TellsUnput files out put f w f' w' result =
     (PutsFile files Failed put.name put.bytes f f' × Tells out (codes "write-fault\n") status.WriteFault w w' result)
     ⊎ (PutsFile files WantedMemory put.name put.bytes f f' × TellsMemory out w w' result)
 
+-- no file can be put under a name, or memory was wanted for the look, and this was told
+abbrev pub TellsNoPlace : {F W : Type 0} → FilesTell F → OutputTells W → List ℕ → F → W → F → W → Status → Type 0
+TellsNoPlace files out name f w f' w' result =
+    (LooksAt files Failed name f f' × Tells out (codes "write-fault\n") status.WriteFault w w' result)
+    ⊎ (LooksAt files WantedMemory name f f' × TellsMemory out w w' result)
+
+-- the run has looked at the name of a log, if there is one; or it ends
+abbrev pub LooksOrEnds : {F W : Type 0} → FilesTell F → OutputTells W → Option (List ℕ) → Result ⊤ Status → F → W → F → W → Type 0
+LooksOrEnds files out None (Ok looked) f w f' w' = (f' ≡ f) × (w' ≡ w)
+LooksOrEnds files out None (Err result) f w f' w' = ⊥
+LooksOrEnds files out (Some name) (Ok looked) f w f' w' = LooksAt files Well name f f' × (w' ≡ w)
+LooksOrEnds files out (Some name) (Err result) f w f' w' = TellsNoPlace files out name f w f' w' result
+
 -- The end of a view's run is told. Memory may be wanted for the line of a refusal.
 abbrev pub TellsViewEnd : {W : Type 0} → OutputTells W → ViewEnd → W → W → Status → Type 0
 TellsViewEnd out (view_end.Refused code kept) old new result =
@@ -62,11 +77,16 @@ Completes tells steps (Err result) old new = (ending : Ending) → Does tells st
 abbrev pub all_well : Ending
 all_well = Silent status.Ok
 
--- how the run of a reflector ends behind all its steps
-abbrev pub reflected_ending : Bool → Bool → Ending
-reflected_ending true net_failed = on_write_fault
-reflected_ending false true = on_net_fault
-reflected_ending false false = all_well
+-- the run ends because the net gave no further link
+abbrev pub stop_ending : NetFault → Ending
+stop_ending net_fault.Failed = on_net_fault
+stop_ending net_fault.WantOfMemory = OutOfMemory
+
+-- how the run of a reflector ends after all its steps
+abbrev pub reflected_ending : Bool → Option NetFault → Ending
+reflected_ending true stopped = on_write_fault
+reflected_ending false None = all_well
+reflected_ending false (Some fault) = stop_ending fault
 
 -- and the run of one that has no session to tell of
 abbrev pub fault_ending : ServeFault → Ending

@@ -1,13 +1,15 @@
 -- A live view's run ends with its links, refused, by its peer, or by a fault of the net only where its links caused it.
 use Rattle.std.specs.Prelude.{◌≡◌, ◌≢◌, ◌⊎◌, List, Option}
+use Rattle.tea_base.specs.declared.entry.Entry.{Entry}
 use Rattle.tea_io.specs.Told.{Rose}
 use Rattle.run_steps.specs.Outside.{FilesTell, LinksTell, NetTells, Outside, OutputTells, outside_tells}
 use Rattle.live_view.specs.declared.input.LiveInput.{LiveInput}
-use Rattle.live_view.specs.Live.{LiveState}
+use Rattle.live_view.specs.Live.{LiveState, live_run}
 use Rattle.live_view.specs.Script.{first_state}
 use Rattle.live_shell.specs.LiveRun.{inputs_in}
 use Rattle.live_shell.specs.LiveSteps.{FeedTells}
 use Rattle.view_follows.specs.Answered.{GoOn, RefuseNoOther}
+use Rattle.view_follows.specs.LiveAnswers.{EndsInReplayText, IsAnsweredLive}
 use Rattle.view_follows.specs.LiveEnds.{TakesAllWell, link_steps}
 use Rattle.command_words.specs.declared.words.Command.{Command}
 use Rattle.commands.specs.Verdict.{Comes, PlainLive}
@@ -24,11 +26,15 @@ NetFaultRose net old new = Rose (net.faults old) (net.faults new) ⊎ Rose (net.
 
 -- Of a live view that was told this, and whose run has done this to the net: which of it leads to which end. Where its links went on it does not
 -- end with them. Where nothing was refused but a snapshot it does not end refused. Where each frame that it heard was taken without a fault of the
--- peer, it finds none. It ends with a fault of the net only where that was counted.
+-- peer, it finds none. It finds none either where one legal log answered its links; and where it is done then, the text of all that it was told
+-- ends with the line of the replay of this log. It ends with a fault of the net only where that was counted.
 pub record OnlyByLiveLinks {N L : Type 0} (net : NetTells N L) (live : PlainLive) (inputs : List LiveInput) (old new : N) (result : Status) : Type 0 where
   pub ended : GoOn 0 (link_steps (first_of live) inputs) → result ≢ status.Ended
   pub refused : RefuseNoOther (link_steps (first_of live) inputs) → result ≢ status.Refused
   pub peer : TakesAllWell (first_of live) inputs → result ≢ status.Peer
+  pub answered : (log : List Entry) → IsAnsweredLive live.founding live.id live.view live.address log inputs → result ≢ status.Peer
+  pub replays : (log : List Entry) → IsAnsweredLive live.founding live.id live.view live.address log inputs → result ≡ status.Ok
+      → EndsInReplayText live.founding live.id live.view log (live_run (first_of live) inputs).text
   pub failed : result ≡ status.NetFault → NetFaultRose net old new
 
 -- so of each command that has run as a live view

@@ -1,7 +1,7 @@
 -- What a run does to the outside: all that comes of its command, or this up to one place, and then the line of its fault.
 use Rattle.std.specs.Prelude.{◌≡◌, ℕ, Bool, false, ◌||◌, List, [], ◌∷◌, ◌++◌, ◌⊎◌, Option, Some, None, Result, Ok, Err, IfOk, codes}
 use Rattle.text_lines.specs.Lines.{spell_numbers}
-use Rattle.run_steps.specs.Steps.{Step, Loads, Puts, Prints}
+use Rattle.run_steps.specs.Steps.{Step, Loads, Puts, Looks, Prints}
 use Rattle.run_steps.specs.Outside.{Outside, OutsideTells, OutputTells, Came, Well, Failed, WantedMemory, PrintsText, Cut, Acts, LinkGoesBack, OnPart}
 use Rattle.tea_io.specs.declared.net.NetCall.TheVariants.{Listen}
 use Rattle.drill.specs.declared.report.DrillReport.{DrillReport}
@@ -20,7 +20,7 @@ use Rattle.reflector_core.specs.Stored.{session_of}
 use Rattle.reflector_core.specs.Keeping.{IsCovered}
 use Rattle.session_log.specs.Stored.{PlainStored}
 use Rattle.session_journal.specs.Frames.{Place}
-use Rattle.session_keeper.specs.Keeping.{IsJournalOf, IsShut, fault_count}
+use Rattle.session_keeper.specs.Keeping.{IsJournalOf, IsShut, WritesJournalOf, fault_count}
 use Rattle.session_keeper.specs.declared.keeper.JournalKeeper.{JournalKeeper}
 use Rattle.journal_store.specs.declared.opening.OpeningFault.{OpeningFault}
 use Rattle.journal_store.specs.declared.opening.OpeningFault.TheVariants as opening_fault
@@ -119,6 +119,7 @@ live_ending live_end.ReadFault = on_read_fault
 abbrev pub failed_ending : Step → Ending
 failed_ending (Loads ask given) = on_read_fault
 failed_ending (Puts name bytes) = on_write_fault
+failed_ending (Looks name) = on_write_fault
 failed_ending (Prints text) = Silent status.WriteFault
 -- all others are of the net and its link
 failed_ending other = on_net_fault
@@ -233,9 +234,9 @@ ServesNet gives tells reflection answer old new =
     OnPart tells.net (λ net. OnPart tells.links (λ links. Reflects (gives_later gives reflection.opening.horizon) (record { 0 = reflection.id }) reflection.opening net links (Listen reflection.address ∷ []) reflection.connections old.net new.net answer))
     × (new ≡ record old { net = new.net })
 
--- what comes of a reflector's answer: its session is put as it is stored, if there is a name for it, and then its text is printed, also where the net failed
+-- what comes of a reflector's answer: its session is put as it is stored, if there is a name for it, and then its text is printed, also where the net, or memory, gave no further link
 abbrev pub OfReflected : Option (List ℕ) → Result Reflected ServeFault → Coming
-OfReflected log (Ok reflected) = OfEnds log reflected.ends reflected.session.plain false reflected.net_failed
+OfReflected log (Ok reflected) = OfEnds log reflected.ends reflected.session.plain false reflected.stopped
 OfReflected log (Err serve_fault.ListenFault) = Only (at_once ByNetFault)
 OfReflected log (Err serve_fault.WantOfMemory) = Only (at_once ByWant)
 
@@ -267,7 +268,7 @@ OfUngone store_fault.WantOfMemory = Only (at_once ByWant)
 
 -- what comes of the answer of a reflector whose session was kept, or was not kept to its end
 abbrev pub OfKept : Option (List ℕ) → Bool → Result Reflected KeptFault → Coming
-OfKept log unkept (Ok reflected) = OfEnds log reflected.ends reflected.session.plain unkept reflected.net_failed
+OfKept log unkept (Ok reflected) = OfEnds log reflected.ends reflected.session.plain unkept reflected.stopped
 OfKept log unkept (Err kept_fault.ListenFault) = Only (at_once ByNetFault)
 OfKept log unkept (Err kept_fault.WantOfMemory) = Only (at_once ByWant)
 OfKept log unkept (Err kept_fault.Unkept) = Only (at_once ByWriteFault)
@@ -308,9 +309,10 @@ pub record EndsRead {F W N L T S : Type 0} (tells : OutsideTells F W N L) (store
   pub stops : StopsAtBytes tells stores.store_faults keeping store bytes left old new result
   pub back : TakesStore stores keeping.journal left s t
 
--- what a keeper holds covers this session, and it may keep more
+-- what a keeper holds covers this session, and so does what it has written; and it may keep more
 pub record GoesOnWith {S : Type 0} (told : S → Option (List ℕ)) (safe : S → ℕ) (session : PlainSession) (keeper : JournalKeeper S) : Type 0 where
   pub covered : IsCovered (IsJournalOf told safe keeper) session.kept session
+  pub written : IsCovered (WritesJournalOf told safe keeper) session.kept session
   pub unshut : ¬ IsShut keeper
 
 -- what the journal of a session tells of its history, from this keeper on

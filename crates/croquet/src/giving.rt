@@ -1,14 +1,15 @@
 //! What a command gives: its files are put, and then its text is printed.
 ghost use Rattle.std.specs.Prelude.{◌≡◌, IfErr, OnOk};
-ghost use Rattle.run_steps.specs.Outside.{PutsFile, Well, desk, desk_tells, files_tell, output_tells};
+ghost use Rattle.run_steps.specs.Outside.{LooksAt, PutsFile, Well, desk, desk_tells, files_tell, output_tells};
 ghost use Rattle.command_outcome.specs.Outcome.{steps_of};
-ghost use Rattle.croquet.specs.Calls.{Completes, TellsUnput, all_well};
+ghost use Rattle.croquet.specs.Calls.{Completes, TellsNoPlace, TellsUnput, all_well};
 ghost use Rattle.croquet.specs.Run.{Does};
 
 use crate::status::Status;
 use crate::telling::{tell, tell_want_of_memory};
 use command_outcome::{Outcome, Put};
-use run_steps::{CallFault, print_text, put_file};
+use run_steps::{CallFault, look_at, print_text, put_file};
+use tea_base::Text;
 use tea_io::{Files, Sink};
 
 /// Puts a file, or tells why it was not put.
@@ -23,6 +24,24 @@ pub(crate) fn put_or_tell<F: Files, W: Sink>(
         put.now files.old out.old files.new out.new) }
 {
     match put_file(files, &put.name, put.bytes.bytes()) {
+        Ok(()) => Ok(()),
+        Err(CallFault::Failed) => Err(tell(out, "write-fault\n", Status::WriteFault)),
+        Err(CallFault::WantOfMemory) => Err(tell_want_of_memory(out)),
+    }
+}
+
+/// Looks whether a file can be put under a name, or tells why not.
+pub(crate) fn look_or_tell<F: Files, W: Sink>(
+    name: &Text,
+    files: &mut F,
+    out: &mut W,
+) -> Result<(), Status>
+    ensures looked { OnOk result (LooksAt (files_tell F.held F.asked F.faults F.wants) Well name.now files.old files.new) }
+    ensures quiet { OnOk result (out.new ≡ out.old) }
+    ensures told { IfErr result (TellsNoPlace (files_tell F.held F.asked F.faults F.wants) (output_tells W.written W.faults W.wants)
+        name.now files.old out.old files.new out.new) }
+{
+    match look_at(files, name) {
         Ok(()) => Ok(()),
         Err(CallFault::Failed) => Err(tell(out, "write-fault\n", Status::WriteFault)),
         Err(CallFault::WantOfMemory) => Err(tell_want_of_memory(out)),

@@ -3,27 +3,52 @@ ghost use Rattle.run_steps.specs.Outside.{desk, desk_tells, files_tell, output_t
 ghost use Rattle.run_steps.specs.Steps.{Puts};
 ghost use Rattle.command_reflect.specs.ReflectedSteps.{log_name, reflected_bytes};
 ghost use Rattle.commands.specs.Verdict.{Free, OfEnds, Only, Then, reflected_verdict};
-ghost use Rattle.croquet.specs.Calls.{fault_ending, kept_fault_ending, reflected_ending};
+ghost use Rattle.croquet.specs.Calls.{LooksOrEnds, fault_ending, kept_fault_ending, reflected_ending, stop_ending};
 ghost use Rattle.croquet.specs.Run.{OfKept, OfReflected, RanBySteps, TellsEnding};
 
-use crate::giving::{give, put_or_tell};
+use crate::giving::{give, look_or_tell, put_or_tell};
 use crate::status::Status;
 use crate::telling::{tell, tell_want_of_memory};
 use command_reflect::{LogPlace, reflected_outcome, reflected_put};
 use reflect_server::{KeptFault, Reflected, ServeFault};
 use std::alloc::Global;
-use tea_io::{Files, Sink};
+use tea_io::{Files, NetFault, Sink};
 
-/// Tells whether a call was not kept, and else whether the net has failed, behind all that was done.
-fn tell_end<W: Sink>(out: &mut W, unkept: bool, net_failed: bool) -> Status
-    ensures { TellsEnding (output_tells W.written W.faults W.wants) (reflected_ending unkept net_failed) out.old out.new result }
+/// Looks whether the session that is to be reflected can be put, if there is a name for it. This is done before anything listens.
+pub(crate) fn look_for_log<F: Files, W: Sink>(
+    log: &Option<LogPlace>,
+    files: &mut F,
+    out: &mut W,
+) -> Result<(), Status>
+    ensures { LooksOrEnds (files_tell F.held F.asked F.faults F.wants) (output_tells W.written W.faults W.wants)
+        (log_name log.now) result files.old out.old files.new out.new }
+{
+    match log {
+        None => Ok(()),
+        Some(place) => look_or_tell(&place.name, files, out),
+    }
+}
+
+/// Tells why the net gave no further link.
+fn tell_stop<W: Sink>(out: &mut W, fault: NetFault) -> Status
+    ensures { TellsEnding (output_tells W.written W.faults W.wants) (stop_ending fault) out.old out.new result }
+{
+    match fault {
+        NetFault::Failed => tell(out, "net-fault\n", Status::NetFault),
+        NetFault::WantOfMemory => tell_want_of_memory(out),
+    }
+}
+
+/// Tells whether a call was not kept, and else why the net gave no further link, after all that was done.
+fn tell_end<W: Sink>(out: &mut W, unkept: bool, stopped: Option<NetFault>) -> Status
+    ensures { TellsEnding (output_tells W.written W.faults W.wants) (reflected_ending unkept stopped) out.old out.new result }
 {
     if unkept {
-        tell(out, "write-fault\n", Status::WriteFault)
-    } else if net_failed {
-        tell(out, "net-fault\n", Status::NetFault)
-    } else {
-        Status::Ok
+        return tell(out, "write-fault\n", Status::WriteFault);
+    }
+    match stopped {
+        None => Status::Ok,
+        Some(fault) => tell_stop(out, fault),
     }
 }
 
@@ -36,14 +61,14 @@ fn give_ends<F: Files, W: Sink>(
     out: &mut W,
 ) -> Status
     ensures { RanBySteps (desk_tells (files_tell F.held F.asked F.faults F.wants) (output_tells W.written W.faults W.wants))
-        (Free (Only (reflected_verdict reflected.now.ends reflected.now.session.plain unkept reflected.now.net_failed)))
+        (Free (Only (reflected_verdict reflected.now.ends reflected.now.session.plain unkept reflected.now.stopped)))
         (desk files.old out.old) (desk files.new out.new) result }
 {
     let Ok(outcome) = reflected_outcome(alloc, reflected.ends.as_slice(), &reflected.session) else {
         return tell_want_of_memory(out);
     };
     match give(&outcome, files, out) {
-        Ok(()) => tell_end(out, unkept, reflected.net_failed),
+        Ok(()) => tell_end(out, unkept, reflected.stopped),
         Err(status) => status,
     }
 }
@@ -58,7 +83,7 @@ fn put_reflected<F: Files, W: Sink>(
     out: &mut W,
 ) -> Status
     ensures { RanBySteps (desk_tells (files_tell F.held F.asked F.faults F.wants) (output_tells W.written W.faults W.wants))
-        (Then (Puts place.name (reflected_bytes reflected.now.session.plain)) (Free (Only (reflected_verdict reflected.now.ends reflected.now.session.plain unkept reflected.now.net_failed))))
+        (Then (Puts place.name (reflected_bytes reflected.now.session.plain)) (Free (Only (reflected_verdict reflected.now.ends reflected.now.session.plain unkept reflected.now.stopped))))
         (desk files.old out.old) (desk files.new out.new) result }
 {
     let put = reflected_put(place, &reflected.session);
@@ -78,7 +103,7 @@ fn give_reflected<F: Files, W: Sink>(
     out: &mut W,
 ) -> Status
     ensures { RanBySteps (desk_tells (files_tell F.held F.asked F.faults F.wants) (output_tells W.written W.faults W.wants))
-        (OfEnds (log_name log) reflected.now.ends reflected.now.session.plain unkept reflected.now.net_failed)
+        (OfEnds (log_name log) reflected.now.ends reflected.now.session.plain unkept reflected.now.stopped)
         (desk files.old out.old) (desk files.new out.new) result }
 {
     match log {

@@ -3,12 +3,12 @@ ghost use Rattle.std.specs.Prelude.{◌≡◌, None, List};
 ghost use Rattle.run_steps.specs.Calls.{came_of, given_of};
 ghost use Rattle.run_steps.specs.Outside.{ReadsFile, desk, desk_tells, files_tell, links_tell, net_tells, output_tells, outside, outside_tells};
 ghost use Rattle.command_words.specs.CommandWords.{command_of};
-ghost use Rattle.command_words.specs.Bounds.{UsesNet};
+ghost use Rattle.command_words.specs.Bounds.{UsesNet, AreConnections};
 ghost use Rattle.command_hub.specs.HubRun.{IsOfCalls};
 ghost use Rattle.command_hub.specs.declared.script.HubLine.{HubLine};
 ghost use Rattle.commands.specs.Laws.{IsFunction, LogsTellTheirEvents, SnapshotsAgree, SomeVerdictComes};
-ghost use Rattle.commands.specs.Verdict.{Comes};
-ghost use Rattle.commands.specs.Work.{ComesNext, IsBoundedNext, ask_of, RunsOn};
+ghost use Rattle.commands.specs.Verdict.{Comes, OfReady};
+ghost use Rattle.commands.specs.Work.{ComesNext, IsBoundedNext, ask_of, RunsOn, plain_reflection};
 ghost use Rattle.view_follows.specs.AnyEnds.{OfRunsOfViews, RunsLiveOn};
 ghost use Rattle.view_follows.specs.Journals.{JournalsLeave};
 ghost use Rattle.view_follows.specs.SessionsReplay.{EndsViews, OfViewRuns};
@@ -29,7 +29,7 @@ use crate::giving::finish;
 use crate::keeping::prepare;
 use crate::kept::{serve_kept, stores_keep_plays};
 use crate::living::{live_runs_are_caused, run_live_view};
-use crate::reflecting::tell_reflected;
+use crate::reflecting::{look_for_log, tell_reflected};
 use crate::status::Status;
 use crate::telling::{tell, tell_refusal, tell_want_of_memory};
 use crate::visiting::run_visit;
@@ -82,6 +82,22 @@ fn read_asked<F: Files>(files: &mut F, waiting: &Waiting) -> Result<Option<Blob>
     read_file(files, waiting.name(), waiting.limit())
 }
 
+/// A session is ready to be reflected, once the run has looked whether its log can be put in the end.
+fn ready<F: Files, W: Sink>(reflection: Reflection, files: &mut F, out: &mut W) -> Turn
+    requires { AreConnections reflection.connections }
+    ensures turns { Turns (desk_tells (files_tell F.held F.asked F.faults F.wants) (output_tells W.written W.faults W.wants))
+        result (OfReady (plain_reflection reflection)) (desk files.old out.old) (desk files.new out.new) }
+    ensures bounded { IsBoundedTurn result }
+{
+    match look_for_log(&reflection.log, files, out) {
+        Ok(()) => Turn::Reflects(reflection),
+        Err(status) => {
+            drop(reflection);
+            Turn::Over(status)
+        }
+    }
+}
+
 /// Runs a command from here on.
 pub(crate) fn go_on<F: Files, W: Sink>(
     alloc: Global,
@@ -110,7 +126,7 @@ pub(crate) fn go_on<F: Files, W: Sink>(
         Next::Gives(outcome) => Turn::Over(finish(&outcome, files, out)),
         Next::Visits(request) => Turn::Visits(request),
         Next::Lives(start) => Turn::Lives(start),
-        Next::Reflects(reflection) => Turn::Reflects(reflection),
+        Next::Reflects(reflection) => ready(reflection, files, out),
         Next::Keeps(keeping) => Turn::Keeps(keeping),
         Next::Drills(request) => Turn::Drills(request),
         Next::WantOfMemory => Turn::Over(tell_want_of_memory(out)),
@@ -181,7 +197,8 @@ pub fn croquet<
     ensures kept { StoresKeepPlays (stores_tell S.held S.faults J.bytes J.safe J.faults) }
     // One verdict comes of a command and of the bytes that it reads, but for want of memory and for the place of a syntax fault.
     ensures function { IsFunction }
-    // A live view ends with its links, refused, by its peer, or by a fault of the net only where its links caused it.
+    // A live view ends with its links, refused, by its peer, or by a fault of the net only where its links caused it. Its last line is the replay where one
+    // log answered them.
     ensures caused { LiveEndsAreCaused (files_tell F.held F.asked F.faults F.wants) (feed_tells K.coming K.told K.faults) (output_tells W.written W.faults W.wants)
         (net_tells N.coming N.over N.asked N.faults N.lent N.link_counts)
         (links_tell N.Conn.coming N.Conn.heard N.Conn.sent N.Conn.counts) }

@@ -1,11 +1,13 @@
 //! The hint that a person gets on the error stream when a run has ended.
 ghost use Rattle.std.specs.Prelude.{◌≡◌};
 
+use crate::progress::Progress;
 use crate::system::{Found, read_within};
 use hints::{Ended, Given, files_looked_at, hint};
 use std::alloc::Global;
 use std::env::Env;
 use std::io::Eprint;
+use std::time::Clock;
 use std::{fs, rt};
 use tea_base::{Blob, Text, WantOfMemory, Words};
 use tea_io::{Sink, SinkFault};
@@ -16,22 +18,24 @@ const LONGEST_LINE: usize = 128;
 /// The most bytes of a file that is read again: those of a log.
 const MOST_BYTES: u64 = 268_435_456;
 
-/// A sink that keeps the last line that was written, where it is short.
+/// A sink that keeps the last line that was written, where it is short. The line of long work is taken away before anything is written.
 #[derive(Drop)]
-pub struct NotedSink<W> {
-    alloc: Global,
+pub struct NotedSink<'a, R, W> {
+    rt: &'a R,
     sink: W,
+    progress: &'a Progress,
     line: Option<Blob>,
 }
 
-impl<W: Sink> NotedSink<W> {
+impl<'a, R, W: Sink> NotedSink<'a, R, W> {
     /// Over this sink, to which nothing was written yet.
-    pub fn new(alloc: Global, sink: W) -> NotedSink<W>
+    pub fn new(rt: &'a R, sink: W, progress: &'a Progress) -> NotedSink<'a, R, W>
         ensures { result.sink ≡ sink }
     {
         NotedSink {
-            alloc,
+            rt,
             sink,
+            progress,
             line: None,
         }
     }
@@ -42,7 +46,7 @@ impl<W: Sink> NotedSink<W> {
     }
 }
 
-impl<W: Sink> Sink for NotedSink<W> {
+impl<R: Eprint + Clock + AllocGlobal, W: Sink> Sink for NotedSink<'_, R, W> {
     ghost written = { λ noted. W.written noted.sink };
 
     ghost faults = { λ noted. W.faults noted.sink };
@@ -50,8 +54,9 @@ impl<W: Sink> Sink for NotedSink<W> {
     ghost wants = { λ noted. W.wants noted.sink };
 
     fn write(&mut self, bytes: &[u8]) -> Result<(), SinkFault> {
+        self.progress.end(self.rt);
         self.line = if bytes.len() <= LONGEST_LINE {
-            Blob::copy(self.alloc, bytes).ok()
+            Blob::copy(self.rt.alloc(), bytes).ok()
         } else {
             None
         };
@@ -60,7 +65,7 @@ impl<W: Sink> Sink for NotedSink<W> {
 }
 
 /// Whether the environment asks to be left alone.
-fn is_quiet<R: Env>(rt: &R) -> bool {
+pub fn is_quiet<R: Env>(rt: &R) -> bool {
     let mut room = [0u8; 2];
     match rt.var("CROQUET_QUIET", &mut room) {
         Ok(len) => len == 1 && room[0] == b'1',
@@ -96,9 +101,9 @@ fn hint_of<R: rt::Files + AllocGlobal>(
     hint(alloc, words, ended, &files)
 }
 
-/// Says on the error stream what is wrong with a run of these words, where something is, and nobody asked for quiet. What cannot be said is no fault.
-pub fn say_hint<R: Env + rt::Files + Eprint + AllocGlobal>(rt: &R, words: &Words, ended: &Ended) {
-    if ended.status == 0 || is_quiet(rt) {
+/// Says on the error stream what is wrong with a run of these words, where something is. What cannot be said is no fault.
+pub fn say_hint<R: rt::Files + Eprint + AllocGlobal>(rt: &R, words: &Words, ended: &Ended) {
+    if ended.status == 0 {
         return;
     }
     if let Ok(text) = hint_of(rt, words, ended) {

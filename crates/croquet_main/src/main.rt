@@ -4,56 +4,112 @@
 
 mod feed;
 mod hinted;
+mod laws;
+mod progress;
+mod recorded;
 mod served;
 mod system;
+mod told_feed;
+mod told_link;
 mod told_net;
 
 use crate::feed::SystemFeed;
-use crate::hinted::{NotedSink, say_hint};
+use crate::hinted::{NotedSink, is_quiet, say_hint};
+use crate::laws::served_is_shared;
+use crate::progress::{Progress, TurnGate};
 use crate::served::Served;
 use crate::system::{Output, SystemClock, SystemFiles, given_words};
-use crate::told_net::ToldNet;
+use crate::told_feed::ToldFeed;
+use crate::told_net::{Refused, ToldNet};
 use croquet::{croquet, tell_want_of_memory};
 use file_store::FileStores;
 use hints::Ended;
+use run_notes::notes_cross_threads;
+use std::env::Env;
+use std::fs::File;
+use std::io::{Eprint, Input, IsTerminal};
 use std::process::ExitCode;
-use tea_base::WantOfMemory;
-use tea_io::OpenGate;
+use std::rt::{Clock, Files};
+use std::sync::Wait;
+use std::thread::Threads;
+use tea_base::{WantOfMemory, Words};
+use tea_io::Net;
 use ws_link::WsNet;
 
-fn main(rt: HostRuntime) -> ExitCode {
-    let mut out = NotedSink::new(rt.alloc(), Output::new(&rt));
-    let words = match given_words(&rt) {
-        Ok(words) => words,
-        Err(WantOfMemory) => return ExitCode::from(tell_want_of_memory(&mut out).number()),
-    };
+/// The words, and the feed of the standard input.
+fn given<R: Env + Input + Clock + AllocGlobal>(
+    rt: &R,
+) -> Result<(Words, SystemFeed<'_, R>), WantOfMemory> {
+    let words = given_words(rt)?;
+    let feed = SystemFeed::new(rt)?;
+    Ok((words, feed))
+}
+
+/// Runs the program, and says what is to be said at the terminal. The net is any one, so that its links may be followed in other threads.
+fn run<
+    R: Files<File = File>
+        + Env
+        + Input
+        + Print
+        + Eprint
+        + Clock
+        + AllocGlobal
+        + Threads
+        + Wait
+        + Copy
+        + Send
+        + Sync
+        + 'static,
+    N: Net + Refused + Send + Drop,
+>(
+    rt: &R,
+    given: (Words, SystemFeed<'_, R>),
+    output: Output<'_, R>,
+    net: N,
+    is_terminal: bool,
+) -> ExitCode {
+    served_is_shared();
+    notes_cross_threads();
+    let (words, feed) = given;
+    let quiet = is_quiet(rt);
+    let progress = Progress::of(rt.alloc(), &words, !quiet && is_terminal);
+    let shower = progress.begin(*rt);
     let served = Served::of(rt.alloc(), &words);
-    let mut files = SystemFiles::new(&rt, &served);
-    let mut stores = FileStores::new(&rt);
-    let mut feed = match SystemFeed::new(&rt) {
-        Ok(feed) => feed,
-        Err(WantOfMemory) => return ExitCode::from(tell_want_of_memory(&mut out).number()),
-    };
-    let clock = SystemClock::new(&rt);
-    let net = ToldNet::new(&rt, WsNet::new(rt.alloc(), rt), &served);
+    let mut files = SystemFiles::new(rt, &served, &progress);
+    let mut out = NotedSink::new(rt, output, &progress);
+    let net = ToldNet::new(*rt, net, &served, quiet);
     let (net, status) = croquet(
-        &rt,
+        rt,
         rt.alloc(),
         &words,
         &mut files,
-        &mut stores,
-        &mut feed,
-        &clock,
+        &mut FileStores::new(rt),
+        &mut ToldFeed::new(rt, feed, quiet),
+        &SystemClock::new(rt),
         net,
-        &OpenGate,
+        &TurnGate::new(&progress),
         &mut out,
     );
+    progress.finish(rt, shower);
     let ended = Ended {
         status: status.number(),
         line: out.take_line(),
         failure: files.take_failure(),
         net: net.reason(),
     };
-    say_hint(&rt, &words, &ended);
+    if !quiet {
+        say_hint(rt, &words, &ended);
+    }
     ExitCode::from(status.number())
+}
+
+fn main(rt: HostRuntime) -> ExitCode {
+    let mut output = Output::new(&rt);
+    match given(&rt) {
+        Ok(given) => {
+            let net = WsNet::new(rt.alloc(), rt);
+            run(&rt, given, output, net, rt.stderr().is_terminal())
+        }
+        Err(WantOfMemory) => ExitCode::from(tell_want_of_memory(&mut output).number()),
+    }
 }

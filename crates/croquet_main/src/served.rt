@@ -1,9 +1,10 @@
-//! Which session `reflect` serves, for the line that says so.
-ghost use Rattle.std.specs.Prelude.{◌<◌, ◌^◌, encode_utf8_all, length};
-
+//! Which session a run serves or joins, as its files are read.
+use command_outcome::read_program;
 use command_words::{Command, read_command};
+use model_solved::Checked;
 use model_value::Value;
 use persist_json::from_json;
+use run_notes::WorldWatch;
 use snapshot_codec::session_id;
 use std::alloc::Global;
 use std::sync::OnceLock;
@@ -12,71 +13,133 @@ use tea_base::{Blob, SessionId, Text, Words};
 /// The longest name of a session, in bytes of UTF-8.
 const MOST_NAME: usize = 255;
 
-/// The session that `reflect` serves: its name from the words, and its id once its program and its persisted value were read.
+/// The session that `reflect` serves or `join` takes part in: its name from the words, and its program and its persisted value once they were read.
 #[derive(Drop)]
 pub struct Served {
     alloc: Global,
     name: Option<Text>,
-    /// Whether the JSON of a persisted value is read after the program.
-    persists: bool,
-    /// The program's text, where its persisted value is read after it.
+    /// The number of the view that takes part, 0 of a reflector.
+    view: u32,
+    /// The file of the persisted value, where it has one.
+    persisted: Option<Text>,
+    /// The program's text.
     text: OnceLock<Blob>,
-    id: OnceLock<SessionId>,
+    /// The JSON of the persisted value.
+    json: OnceLock<Blob>,
 }
 
 impl Served {
     /// The session of these words. Those of another command serve none. Where memory is short, none is known.
     pub fn of(alloc: Global, words: &Words) -> Served {
-        let command = read_command(alloc, words);
-        let (name, persists) = match &command {
-            Ok(Some(Command::Reflect(request))) => {
-                (request.name.try_clone().ok(), request.persisted.is_some())
+        match read_command(alloc, words) {
+            Ok(Some(command)) => Served::in_command(alloc, &command),
+            _ => Served::named(alloc, None, None, 0),
+        }
+    }
+
+    fn in_command(alloc: Global, command: &Command) -> Served {
+        match command {
+            Command::Reflect(request) => {
+                Served::named(alloc, Some(&request.name), request.persisted.as_ref(), 0)
             }
-            _ => (None, false),
+            Command::Join(request) => {
+                let persisted = request.persisted.as_ref();
+                Served::named(alloc, Some(&request.name), persisted, request.view)
+            }
+            Command::Live(request) => {
+                let persisted = request.persisted.as_ref();
+                Served::named(alloc, Some(&request.name), persisted, request.view)
+            }
+            _ => Served::named(alloc, None, None, 0),
+        }
+    }
+
+    /// A session of this name and with the persisted value of this file, of which nothing was read yet.
+    pub fn named(
+        alloc: Global,
+        name: Option<&Text>,
+        persisted: Option<&Text>,
+        view: u32,
+    ) -> Served {
+        let is_known = match persisted {
+            Some(persisted) => persisted.try_clone().is_ok(),
+            None => true,
         };
         Served {
             alloc,
-            name,
-            persists,
+            name: if is_known { owned(name) } else { None },
+            view,
+            persisted: owned(persisted),
             text: OnceLock::new(),
-            id: OnceLock::new(),
+            json: OnceLock::new(),
         }
     }
 
-    /// A file was read. The first one is the program, and the second one the JSON of its persisted value, if it has one.
-    pub fn note_read(&self, bytes: &[u8]) {
-        let Some(name) = &self.name else {
-            return;
-        };
-        if name.bytes().len() > MOST_NAME {
+    /// A file was read. The first one is the program.
+    pub fn note_read(&self, name: &Text, bytes: &[u8]) {
+        if self.name.is_none() {
             return;
         }
-        if !self.persists {
-            let _ = self.id.try_set(session_id(name, bytes, &Value::Nil));
+        if self.text.get().is_none() {
+            keep(self.alloc, &self.text, bytes);
             return;
         }
-        match self.text.get() {
-            None => self.keep_text(bytes),
-            Some(text) => self.note_value(name, text.bytes(), bytes),
-        }
-    }
-
-    fn keep_text(&self, bytes: &[u8]) {
-        if let Ok(text) = Blob::copy(self.alloc, bytes) {
-            let _ = self.text.try_set(text);
-        }
-    }
-
-    fn note_value(&self, name: &Text, text: &[u8], json: &[u8])
-        requires { length (encode_utf8_all name.now) < 2 ^ 32 }
-    {
-        if let Ok(value) = from_json(self.alloc, json) {
-            let _ = self.id.try_set(session_id(name, text, &value));
+        match &self.persisted {
+            Some(persisted) if persisted.is_text(name) => keep(self.alloc, &self.json, bytes),
+            _ => {}
         }
     }
 
     /// The id, once all that it is made from was read.
-    pub fn id(&self) -> Option<&SessionId> {
-        self.id.get()
+    pub fn id(&self) -> Option<SessionId> {
+        let name = self.name.as_ref()?;
+        if name.bytes().len() > MOST_NAME {
+            return None;
+        }
+        let text = self.text.get()?.bytes();
+        if self.persisted.is_none() {
+            return Some(session_id(name, text, &Value::Nil));
+        }
+        match from_json(self.alloc, self.json.get()?.bytes()) {
+            Ok(value) => Some(session_id(name, text, &value)),
+            Err(_) => None,
+        }
+    }
+
+    /// The program with its persisted value, where it has no fault.
+    pub fn program(&self) -> Option<Checked> {
+        let Ok(program) = read_program(self.alloc, self.text.get()?.bytes()) else {
+            return None;
+        };
+        if self.persisted.is_none() {
+            return Some(program);
+        }
+        match from_json(self.alloc, self.json.get()?.bytes()) {
+            Ok(value) => Some(program.with_persisted(value)),
+            Err(_) => None,
+        }
+    }
+
+    /// What follows the world of the view that takes part, once all that it is made from was read.
+    pub fn watch(&self) -> Option<WorldWatch> {
+        if self.view == 0 {
+            return None;
+        }
+        let (id, program) = (self.id()?, self.program()?);
+        WorldWatch::new(self.alloc, program, id, self.view).ok()
+    }
+}
+
+/// The same text in memory of its own.
+pub fn owned(text: Option<&Text>) -> Option<Text> {
+    text?.try_clone().ok()
+}
+
+/// Keeps a file's bytes, where none are kept there. Where memory is short, none are.
+pub fn keep(alloc: Global, place: &OnceLock<Blob>, bytes: &[u8]) {
+    if place.get().is_none() {
+        if let Ok(bytes) = Blob::copy(alloc, bytes) {
+            let _ = place.try_set(bytes);
+        }
     }
 }

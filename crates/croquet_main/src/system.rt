@@ -4,8 +4,9 @@ ghost use Rattle.tea_io.specs.declared.files.FileFault.TheVariants.{Failed};
 ghost use Rattle.tea_io.specs.Files.{Untold, FileCause, FileWant};
 ghost use Rattle.croquet_main.specs.System.{IsCounted, IsWithin};
 
+use crate::progress::Progress;
 use crate::served::Served;
-use file_store::put_over;
+use file_store::{look_beside, put_over};
 use hints::FileFailure;
 use std::env::{Env, FillError};
 use std::fs::{self, File, OpenFile};
@@ -53,12 +54,13 @@ pub fn given_words<R: Env + AllocGlobal>(rt: &R) -> Result<Words, WantOfMemory> 
     Ok(words)
 }
 
-/// The files of the system. What is read is noted for the session that is served. What is written is put under its name whole, or not
+/// The files of the system. What is read is noted for the session that is served, and for the line of long work. What is written is put under its name whole, or not
 /// at all, where that is the name of a plain file or of none, and its folder takes a new file.
 #[derive(Drop)]
 pub struct SystemFiles<'a, R> {
     rt: &'a R,
     served: &'a Served,
+    progress: &'a Progress,
     counts: FileCounts,
     failure: Option<FileFailure>,
 }
@@ -74,13 +76,14 @@ struct FileCounts {
 
 impl<'a, R: rt::Files + AllocGlobal> SystemFiles<'a, R> {
     /// No call has failed yet.
-    pub fn new(rt: &'a R, served: &'a Served) -> SystemFiles<'a, R>
+    pub fn new(rt: &'a R, served: &'a Served, progress: &'a Progress) -> SystemFiles<'a, R>
         ensures faults { result.counts.faults ≡ 0 }
         ensures wants { result.counts.wants ≡ 0 }
     {
         SystemFiles {
             rt,
             served,
+            progress,
             counts: FileCounts {
                 faults: 0,
                 wants: 0,
@@ -153,6 +156,37 @@ fn is_of_folder(error: &io::Error) -> bool {
     )
 }
 
+/// Looks whether a file can be written in its place. Where there is none, one is made and removed again. Of what is neither a file
+/// nor a folder, as a device and a pipe, nothing can be told before.
+fn look_over<R: rt::Files>(rt: &R, path: &str) -> io::Result<()> {
+    match fs::metadata(rt, path) {
+        Ok(found) if found.is_file() || found.is_dir() => {
+            File::options().write(true).open(rt, path)?;
+            Ok(())
+        }
+        Ok(_) => Ok(()),
+        Err(error) if error.kind() == ErrorKind::NotFound => match File::create_new(rt, path) {
+            Ok(_) => fs::remove_file(rt, path),
+            // a symbolic link to no file
+            Err(error) if error.kind() == ErrorKind::AlreadyExists => Ok(()),
+            Err(error) => Err(error),
+        },
+        Err(error) => Err(error),
+    }
+}
+
+/// Looks whether a file can be put under a name, as `write` puts it.
+fn look_for<R: rt::Files + AllocGlobal>(rt: &R, path: &str) -> io::Result<()> {
+    if is_replaced(rt, path) {
+        match look_beside(rt, path) {
+            Ok(()) => return Ok(()),
+            Err(error) if is_of_folder(&error) => {}
+            Err(error) => return Err(error),
+        }
+    }
+    look_over(rt, path)
+}
+
 /// Writes a file in its place. Each error is a failure: being out of memory would say that it still holds what it held.
 fn write_over<R: rt::Files>(
     rt: &R,
@@ -220,7 +254,8 @@ impl<R: rt::Files + AllocGlobal> Files for SystemFiles<'_, R> {
     fn read(&mut self, name: &Text, limit: u64) -> Result<Blob, FileFault> {
         match read_within(self.rt, name.as_str(), limit) {
             Ok(Found::Bytes(bytes)) => {
-                self.served.note_read(bytes.as_slice());
+                self.served.note_read(name, bytes.as_slice());
+                self.progress.note_read(name, bytes.as_slice());
                 Ok(Blob::from_vec(bytes))
             }
             Ok(Found::TooLong(len)) => Err(FileFault::TooLarge { len }),
@@ -250,6 +285,17 @@ impl<R: rt::Files + AllocGlobal> Files for SystemFiles<'_, R> {
             self.note_failure(name, true);
         }
         written
+    }
+
+    fn look(&mut self, name: &Text) -> Result<(), FileFault> {
+        match look_for(self.rt, name.as_str()) {
+            Ok(()) => Ok(()),
+            Err(error) => {
+                let fault = count_fault(&mut self.counts, error);
+                self.note_failure(name, true);
+                Err(fault)
+            }
+        }
     }
 }
 

@@ -1,9 +1,12 @@
-//! A net that says on the error stream whether it listens.
-ghost use Rattle.std.specs.Prelude.{◌≡◌};
+//! A net that says on the error stream whether it listens, and whose links are followed.
+ghost use Rattle.std.specs.Prelude.{◌≡◌, None};
 
 use crate::served::Served;
+use crate::told_link::ToldLink;
 use hints::NetReason;
+use run_notes::{Guest, WorldWatch};
 use std::io::{Eprint, ErrorKind};
+use std::time::Clock;
 use tea_base::Text;
 use tea_io::{Net, NetFault};
 use ws_link::WsNet;
@@ -28,20 +31,33 @@ impl<R> Refused for WsNet<R> {
 }
 
 /// A net whose `listen` is followed by one line on the error stream: where it listens and which session it serves, or why it does not
-/// listen. A line that cannot be written is no fault.
+/// listen. A line that cannot be written is no fault. Unless it is to be quiet, it says what its links bring too.
 #[derive(Drop)]
-pub struct ToldNet<'a, R, N> {
-    rt: &'a R,
+pub struct ToldNet<'a, R: Copy, N> {
+    rt: R,
     net: N,
     served: &'a Served,
+    /// Whether nothing is to be said of its links.
+    is_quiet: bool,
+    /// How many links it has accepted.
+    accepted: u32,
+    /// What follows the world of a view, while the view has no link.
+    watch: Option<WorldWatch>,
 }
 
-impl<'a, R: Eprint + AllocGlobal, N: Net + Refused> ToldNet<'a, R, N> {
+impl<'a, R: Copy, N: Net + Refused> ToldNet<'a, R, N> {
     /// A net that serves this session.
-    pub fn new(rt: &'a R, net: N, served: &'a Served) -> ToldNet<'a, R, N>
+    pub fn new(rt: R, net: N, served: &'a Served, is_quiet: bool) -> ToldNet<'a, R, N>
         ensures { result.net ≡ net }
     {
-        ToldNet { rt, net, served }
+        ToldNet {
+            rt,
+            net,
+            served,
+            is_quiet,
+            accepted: 0,
+            watch: None,
+        }
     }
 
     /// Why the net or a link failed, where one did.
@@ -51,6 +67,14 @@ impl<'a, R: Eprint + AllocGlobal, N: Net + Refused> ToldNet<'a, R, N> {
             None if self.net.is_unshaken() => NetReason::Handshake,
             None => NetReason::Link,
         }
+    }
+}
+
+/// What follows the link of a view: what followed the link before it, or else a new one.
+fn watch_of(watch: Option<WorldWatch>, served: &Served) -> Option<WorldWatch> {
+    match watch {
+        Some(watch) => Some(watch),
+        None => served.watch(),
     }
 }
 
@@ -82,12 +106,12 @@ fn reason_of(refusal: Option<ErrorKind>) -> &'static str {
     }
 }
 
-impl<R: Eprint + AllocGlobal, N: Net + Refused> Net for ToldNet<'_, R, N> {
-    type Conn = N::Conn;
+impl<R: Eprint + Clock + AllocGlobal + Copy + Send, N: Net + Refused> Net for ToldNet<'_, R, N> {
+    type Conn = ToldLink<R, N::Conn>;
 
-    ghost coming = { λ told. N.coming told.net };
+    ghost coming = { λ told. None };
 
-    ghost over = { λ told. N.over told.net };
+    ghost over = { λ told. None };
 
     ghost asked = { λ told. N.asked told.net };
 
@@ -100,21 +124,46 @@ impl<R: Eprint + AllocGlobal, N: Net + Refused> Net for ToldNet<'_, R, N> {
     fn listen(&mut self, address: &Text) -> Result<(), NetFault> {
         let listened = self.net.listen(address);
         match listened {
-            Ok(()) => tell_place(self.rt, address.as_str(), self.served),
-            Err(_) => tell_refusal(self.rt, address.as_str(), self.net.refusal()),
+            Ok(()) => tell_place(&self.rt, address.as_str(), self.served),
+            Err(_) => tell_refusal(&self.rt, address.as_str(), self.net.refusal()),
         }
         listened
     }
 
-    fn accept(&mut self) -> Result<N::Conn, NetFault> {
-        self.net.accept()
+    fn accept(&mut self) -> Result<ToldLink<R, N::Conn>, NetFault> {
+        match self.net.accept() {
+            Ok(link) => {
+                let guest = if self.is_quiet {
+                    None
+                } else {
+                    Some(Guest::new(self.rt.alloc(), self.accepted))
+                };
+                self.accepted = self.accepted.saturating_add(1);
+                Ok(ToldLink::new(self.rt, link, guest, None))
+            }
+            Err(fault) => Err(fault),
+        }
     }
 
-    fn connect(&mut self, address: &Text) -> Result<N::Conn, NetFault> {
-        self.net.connect(address)
+    fn connect(&mut self, address: &Text) -> Result<ToldLink<R, N::Conn>, NetFault> {
+        match self.net.connect(address) {
+            Ok(link) => {
+                let watch = if self.is_quiet {
+                    None
+                } else {
+                    watch_of(self.watch.take(), self.served)
+                };
+                Ok(ToldLink::new(self.rt, link, None, watch))
+            }
+            Err(fault) => Err(fault),
+        }
     }
 
-    fn back(&mut self, conn: N::Conn) {
-        self.net.back(conn);
+    fn back(&mut self, conn: ToldLink<R, N::Conn>) {
+        let (link, watch) = conn.into_parts();
+        if watch.is_some() {
+            self.watch = watch;
+        }
+        self.net.back(link);
     }
 }

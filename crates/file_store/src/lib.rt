@@ -9,6 +9,6 @@ mod store;
 mod stores;
 
 pub use laws::file_store_crosses_threads;
-pub use placing::put_over;
+pub use placing::{look_beside, put_over};
 pub use store::FileStore;
 pub use stores::FileStores;

@@ -55,6 +55,12 @@ pub(crate) fn put_new<R: Files + AllocGlobal>(rt: &R, path: &str, bytes: &[u8]) 
     folder.sync_all()
 }
 
+/// Looks whether a new file can be made beside a name. It leaves none behind.
+pub fn look_beside<R: Files + AllocGlobal>(rt: &R, path: &str) -> io::Result<()> {
+    let (name, _file) = new_beside(rt, path)?;
+    fs::remove_file(rt, name.as_str())
+}
+
 /// Gives a file the name of another one, and has the system keep that where it can: from then on the name has the new bytes.
 fn move_over<R: Files>(rt: &R, name: &str, path: &str) -> io::Result<()> {
     fs::rename(rt, name, path)?;

@@ -4,8 +4,8 @@ use Rattle.reflector_core.specs.PlainSession.{PlainSession, IsSoundSession}
 use Rattle.reflector_core.specs.Keeping.{Covers, IsCovered}
 use Rattle.reflector_core.specs.Stored.{session_of}
 use Rattle.session_log.specs.Stored.{PlainStored}
-use Rattle.session_journal.specs.Keeper.{IsKeptBy}
-use Rattle.session_keeper.specs.Keeping.{IsJournalOf}
+use Rattle.session_journal.specs.Keeper.{IsKeptBy, IsWrittenBy}
+use Rattle.session_keeper.specs.Keeping.{IsJournalOf, WritesJournalOf}
 use Rattle.session_keeper.specs.declared.keeper.JournalKeeper.{JournalKeeper}
 
 -- a session covers itself
@@ -17,6 +17,15 @@ pub covered_by : {S : Type 0} (told : S → Option (List ℕ)) (safe : S → ℕ
 covered_by told safe keeper stored s kept same sound = record {
   held = s;
   is_held = record { state = stored; is_kept = kept; same = sym same };
+  covers = covers_itself s sound;
+  kept = inl refl;
+}
+
+pub written_by : {S : Type 0} (told : S → Option (List ℕ)) (safe : S → ℕ) (keeper : JournalKeeper S) (stored : PlainStored) (s : PlainSession) → IsWrittenBy told safe keeper.id.0 keeper.journal stored → s ≡ session_of stored → IsSoundSession s
+    → IsCovered (WritesJournalOf told safe keeper) s.kept s
+written_by told safe keeper stored s written same sound = record {
+  held = s;
+  is_held = record { state = stored; is_written = written; same = sym same };
   covers = covers_itself s sound;
   kept = inl refl;
 }

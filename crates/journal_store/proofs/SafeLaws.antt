@@ -9,7 +9,7 @@ use Rattle.session_journal.specs.Frames.{last_check}
 use Rattle.session_journal.specs.Changes.{change_spelling}
 use Rattle.session_journal.specs.State.{GoesOn, founded, journal_after}
 use Rattle.session_journal.specs.Journal.{Goes, ReadsWhole, first_check, header, journal_check, journal_spelling, read_journal, record_check, records_spelling}
-use Rattle.session_journal.specs.Keeper.{KeeperState, Keeps, keeper_state}
+use Rattle.session_journal.specs.Keeper.{Keeps}
 use Rattle.session_journal.proofs.JournalLaws.{spelled_both}
 use Rattle.session_keeper.specs.Keeping.{IsJournalOf}
 use Rattle.session_keeper.specs.declared.keeper.JournalKeeper.{JournalKeeper}
@@ -53,8 +53,8 @@ whole_read fronts id changes goes =
           ∙ ap (λ (cs : List Change). Goes (record { state = journal_after founded cs; check = journal_check id r.whole; rest = [] })) (sym whole),
     )
 
-pub safe_read : FrontsRead → (id bytes : List ℕ) (safe : ℕ) (keeper : KeeperState) (state : PlainStored) → Keeps id (Some bytes) safe keeper state → ReadsAs id (take safe bytes) state
-safe_read fronts id bytes safe keeper state keeps =
+pub safe_read : FrontsRead → (id bytes : List ℕ) (safe : ℕ) (state : PlainStored) → Keeps id (Some bytes) safe state → ReadsAs id (take safe bytes) state
+safe_read fronts id bytes safe state keeps =
     let spelled : List ℕ = journal_spelling id keeps.changes in
     let told = keeps.safe_are in
     let front : take safe bytes ≡ spelled = ap (take safe) told.1 ∙ take_at spelled told.0 safe (sym told.2) in
@@ -62,15 +62,15 @@ safe_read fronts id bytes safe keeper state keeps =
     (r.0, ap (read_journal id) front ∙ r.1 ∙ ap (λ (s : PlainStored). Goes (record { state = s; check = r.0; rest = [] })) keeps.state_is)
 
 abbrev pub SafeRead : Type 0
-SafeRead = (id bytes : List ℕ) (safe : ℕ) (keeper : KeeperState) (state : PlainStored) → Keeps id (Some bytes) safe keeper state → ReadsAs id (take safe bytes) state
+SafeRead = (id bytes : List ℕ) (safe : ℕ) (state : PlainStored) → Keeps id (Some bytes) safe state → ReadsAs id (take safe bytes) state
 
 -- a session that is covered is safely kept
 pub safely_kept : {S : Type 0} → SafeRead → (told : S → Option (List ℕ)) (safe : S → ℕ) (keeper : JournalKeeper S) (s held : PlainSession) → IsJournalOf told safe keeper held → Covers s held → IsSafelyKept told safe keeper s
 safely_kept read told safe keeper s held is covers bytes tells =
-    let keeps = subst (λ (b : Option (List ℕ)). Keeps keeper.id.0 b (safe keeper.journal.store) (keeper_state keeper.journal) is.state) tells is.is_kept in
+    let keeps = subst (λ (b : Option (List ℕ)). Keeps keeper.id.0 b (safe keeper.journal.store) is.state) tells is.is_kept in
     record {
       state = is.state;
-      reads = read keeper.id.0 bytes (safe keeper.journal.store) (keeper_state keeper.journal) is.state keeps;
+      reads = read keeper.id.0 bytes (safe keeper.journal.store) is.state keeps;
       log = ap (λ (x : PlainSession). x.log) is.same ∙ covers.log;
       horizon = subst (λ (x : PlainSession). s.horizon ≤ x.horizon) (sym is.same) covers.ahead;
     }

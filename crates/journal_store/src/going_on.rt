@@ -3,7 +3,7 @@ ghost use Rattle.std.specs.Prelude.{◌≡◌, ◌≤◌, IfErr, IfOk, false};
 ghost use Rattle.tea_io.specs.Told.{Rose};
 ghost use Rattle.session_log.specs.Stored.{IsStored, plain_stored};
 ghost use Rattle.session_journal.specs.Reading.{read_place};
-ghost use Rattle.session_keeper.specs.Keeping.{IsJournalOf, IsShut};
+ghost use Rattle.session_keeper.specs.Keeping.{IsJournalOf, IsShut, WritesJournalOf};
 ghost use Rattle.reflector_core.specs.Keeping.{IsCovered};
 ghost use Rattle.reflector_core.specs.PlainSession.{IsSoundSession};
 ghost use Rattle.reflector_core.specs.Stored.{session_of};
@@ -62,8 +62,9 @@ pub fn go_on<S: Store + Drop>(
 ) -> Result<(Session, JournalKeeper<S>), Unopened<S>>
     requires { WasRead (S.bytes store) id.0 (read_place read) read.good }
     ensures session { IfOk result (λ kept. kept.0.plain ≡ session_of (plain_stored read.entry.stored)) }
-    // What the keeper holds covers the session, and keeps the same snapshot.
+    // What the keeper holds covers the session, and keeps the same snapshot. So does what it has written, which is the same.
     ensures covered { IfOk result (λ kept. IsCovered (IsJournalOf S.bytes S.safe kept.1) kept.0.plain.kept kept.0.plain) }
+    ensures written { IfOk result (λ kept. IsCovered (WritesJournalOf S.bytes S.safe kept.1) kept.0.plain.kept kept.0.plain) }
     ensures unshut { IfOk result (λ kept. ¬ IsShut kept.1) }
     ensures id { IfOk result (λ kept. kept.1.id ≡ id) }
     ensures faults { IfOk result (λ kept. S.faults store ≤ S.faults kept.1.journal.store) }

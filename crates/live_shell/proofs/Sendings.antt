@@ -93,8 +93,8 @@ well (Err fault) x = tt
 -- the view behind what it was told
 pub stepped : {A E : Type 0} (done : Result A E) (address : List ℕ) (out : LiveOutcome) (old new : LiveView) (told : LiveInput) → told_by address out new ≡ live_step (live_state address old) told
     → OnOk done (StepsTo (live_state address old) told (live_state address new))
-stepped (Ok it) address out old new told is = record { is = ap (λ (t : LiveTold). t.state) is }
+stepped (Ok it) address out old new told is = record { is = ap (λ (t : LiveTold). t.state) is; fit = sym (ap (λ (t : LiveTold). t.fit) is) }
 stepped (Err fault) address out old new told is = tt
 
 pub steps_by : (address : List ℕ) (out : LiveOutcome) (old new : LiveView) (told : LiveInput) → told_by address out new ≡ live_step (live_state address old) told → StepsTo (live_state address old) told (live_state address new)
-steps_by address out old new told is = record { is = ap (λ (t : LiveTold). t.state) is }
+steps_by address out old new told is = record { is = ap (λ (t : LiveTold). t.state) is; fit = sym (ap (λ (t : LiveTold). t.fit) is) }

@@ -10,7 +10,7 @@ use Rattle.live_shell.specs.declared.ending.LiveEnd.{LiveEnd}
 use Rattle.live_shell.specs.declared.ending.LiveEnd.TheVariants as live_end
 use Rattle.live_shell.specs.declared.feed.Fed.TheVariants as fed
 use Rattle.live_shell.specs.LiveSteps.{LiveStep, Asks, Sends, Prints as LivePrints, LiveTells, LiveOutside, LiveCut, LiveActs, live_outside}
-use Rattle.live_shell.specs.LiveRun.{AreCounted, EndsLive, IsFair, IsLiveCutEnd, Stopped, Turn, Turned, Turns, and_last, answers, asks_last, here_text, lines_after, lines_behind, prints, state_after, steps_of, told_steps}
+use Rattle.live_shell.specs.LiveRun.{AreCounted, AreFit, AreWanted, EndsLive, IsFair, IsLiveCutEnd, Stopped, Turn, Turned, Turns, and_last, answers, asks_last, here_text, lines_after, lines_behind, prints, state_after, steps_of, told_steps}
 use Rattle.live_shell.specs.Calls.{AnswersAll, IsEndOf, PrintsSome, SendsAll, SendsButNot, SendsNot}
 
 -- ---- steps in a row
@@ -58,6 +58,18 @@ last_both : (first more : List Turn) (last : Option LiveInput) → and_last (fir
 last_both first more None = refl
 last_both first more (Some told) = append_assoc first more (Some told ∷ [])
 
+-- turns that are wanted
+wants_both : (s : LiveState) (first more : List Turn) → AreWanted s first → AreWanted (state_after s first) more → AreWanted s (first ++ more)
+wants_both s [] more wants on = on
+wants_both s (None ∷ first) more (is, wants) on = (is, wants_both s first more wants on)
+wants_both s (Some told ∷ first) more (is, wants) on = (is, wants_both (live_step s told).state first more wants on)
+
+-- turns in which each frame that is sent fits the wire
+fit_both : (s : LiveState) (first more : List Turn) → AreFit s first → AreFit (state_after s first) more → AreFit s (first ++ more)
+fit_both s [] more fit on = on
+fit_both s (None ∷ first) more fit on = fit_both s first more fit on
+fit_both s (Some told ∷ first) more (is, fit) on = (is, fit_both (live_step s told).state first more fit on)
+
 -- ---- turns, and then others
 
 pub turned_then : {K W N L : Type 0} (tells : LiveTells K W N L) (address : List ℕ) (lines : ℕ) (Mid Behind : ℕ → Type 0) (s0 s1 s2 : LiveState) (old mid new : LiveOutside K W N L)
@@ -69,6 +81,8 @@ turned_then tells address lines Mid Behind s0 s1 s2 old mid new before behind =
       acts = subst (λ ss. LiveActs tells ss None old new) (sym steps) (acts_then tells (steps_of address s0 before.turns) (steps_of address s1 behind.turns) None old mid new before.acts behind.acts);
       state = state_both s0 before.turns behind.turns ∙ ap (λ s. state_after s behind.turns) before.state ∙ behind.state;
       fair = fair_both lines before.turns behind.turns before.fair behind.fair;
+      wants = wants_both s0 before.turns behind.turns before.wants (subst (λ (s : LiveState). AreWanted s behind.turns) (sym before.state) behind.wants);
+      fit = fit_both s0 before.turns behind.turns before.fit (subst (λ (s : LiveState). AreFit s behind.turns) (sym before.state) behind.fit);
       behind = subst Behind (sym (after_both lines before.turns behind.turns)) behind.behind;
     }
 
@@ -86,6 +100,9 @@ stopped_then tells address lines Mid s0 s1 end old mid new before behind =
       acts = subst (λ ss. LiveActs tells ss behind.cut old new) (sym all) (acts_then tells (steps_of address s0 before.turns) (steps_of address s1 behind.turns ++ asks_last address behind.last) behind.cut old mid new before.acts behind.acts);
       ends = subst (λ (s : LiveState). EndsLive s.phase behind.last behind.cut end) (sym state) behind.ends;
       fair = subst (IsFair lines) (sym (last_both before.turns behind.turns behind.last)) (fair_both lines before.turns (and_last behind.turns behind.last) before.fair behind.fair);
+      wants = subst (AreWanted s0) (sym (last_both before.turns behind.turns behind.last))
+          (wants_both s0 before.turns (and_last behind.turns behind.last) before.wants (subst (λ (s : LiveState). AreWanted s (and_last behind.turns behind.last)) (sym before.state) behind.wants));
+      fit = λ none. fit_both s0 before.turns behind.turns before.fit (subst (λ (s : LiveState). AreFit s behind.turns) (sym before.state) (behind.fit none));
     }
 
 -- where so many lines came in a row between
@@ -107,12 +124,12 @@ turns_then tells address lines count Behind s0 s1 s2 (Err end) old mid new befor
 
 -- no turn was made
 pub turned_none : {K W N L : Type 0} (tells : LiveTells K W N L) (address : List ℕ) (lines : ℕ) (Behind : ℕ → Type 0) (s : LiveState) (o : LiveOutside K W N L) → Behind lines → Turned tells address lines Behind s s o o
-turned_none tells address lines Behind s o is = record { turns = []; acts = refl; state = refl; fair = tt; behind = is }
+turned_none tells address lines Behind s o is = record { turns = []; acts = refl; state = refl; fair = tt; wants = tt; fit = tt; behind = is }
 
 -- how many lines came in a row is not asked any more
 pub turned_any : {K W N L : Type 0} (tells : LiveTells K W N L) (address : List ℕ) (lines : ℕ) (Mid Behind : ℕ → Type 0) (s0 s1 : LiveState) (old new : LiveOutside K W N L) → ((n : ℕ) → Behind n)
     → Turned tells address lines Mid s0 s1 old new → Turned tells address lines Behind s0 s1 old new
-turned_any tells address lines Mid Behind s0 s1 old new any turned = record { turns = turned.turns; acts = turned.acts; state = turned.state; fair = turned.fair; behind = any (lines_after lines turned.turns) }
+turned_any tells address lines Mid Behind s0 s1 old new any turned = record { turns = turned.turns; acts = turned.acts; state = turned.state; fair = turned.fair; wants = turned.wants; fit = turned.fit; behind = any (lines_after lines turned.turns) }
 
 -- ---- what a view answers
 

@@ -20,7 +20,7 @@ use Rattle.live_shell.specs.declared.ending.LiveEnd.{LiveEnd}
 use Rattle.live_shell.specs.declared.ending.LiveEnd.TheVariants as live_end
 use Rattle.live_shell.specs.declared.feed.Fed.TheVariants as fed
 use Rattle.live_shell.specs.LiveSteps.{Asks, Hears, LiveTells, LiveOutside, LiveCut, LiveActs, AsksFeed, HearsAny, live_outside}
-use Rattle.live_shell.specs.LiveRun.{AreCounted, IsDue, IsLiveCutEnd, PausesBy, StepsTo, Stopped, Turned, answers, asked, lines_behind, most_lines, pauses, told_steps}
+use Rattle.live_shell.specs.LiveRun.{AreCounted, IsDue, IsLiveCutEnd, IsWanted, PausesBy, StepsTo, Stopped, Turned, WantsInput, answers, asked, lines_behind, most_lines, pauses, told_steps}
 use Rattle.live_shell.specs.Calls.{AnswersAll, AnswersOrNot, IsFed, fed_of}
 use Rattle.live_shell.proofs.Turning.{acts_cut, acts_then, answers_act, answers_cut}
 
@@ -28,19 +28,19 @@ module _ {K W N L : Type 0} (tells : LiveTells K W N L) (address : List ℕ) whe
   -- ---- the feed alone
 
   -- no line had come
-  pub idle_turn : (lines counted : ℕ) (s : LiveState) (feed feed' : K) (w : W) (net : N) (link : Option L) → lines < most_lines → most_lines ≡ counted → AsksFeed tells.feed Well fed.Nothing feed feed'
+  pub idle_turn : (lines counted : ℕ) (s : LiveState) (feed feed' : K) (w : W) (net : N) (link : Option L) → WantsInput s → lines < most_lines → most_lines ≡ counted → AsksFeed tells.feed Well fed.Nothing feed feed'
       → Turned tells address lines (AreCounted counted) s s (live_outside feed w net link) (live_outside feed' w net link)
-  idle_turn lines counted s feed feed' w net link few most asks =
-      record { turns = None ∷ []; acts = inl (live_outside feed' w net link, (asks, refl), refl); state = refl; fair = (few, tt); behind = most }
+  idle_turn lines counted s feed feed' w net link wants few most asks =
+      record { turns = None ∷ []; acts = inl (live_outside feed' w net link, (asks, refl), refl); state = refl; fair = (few, tt); wants = (wants, tt); fit = tt; behind = most }
 
   -- the feed told nothing
-  pub feed_stops : (lines : ℕ) (s : LiveState) (feed feed' : K) (w : W) (net : N) (link : Option L) (why : CallFault) (end : LiveEnd) → lines < most_lines → AsksFeed tells.feed (came_of {T = Option LiveInput} (Err why)) fed.Nothing feed feed'
+  pub feed_stops : (lines : ℕ) (s : LiveState) (feed feed' : K) (w : W) (net : N) (link : Option L) (why : CallFault) (end : LiveEnd) → WantsInput s → lines < most_lines → AsksFeed tells.feed (came_of {T = Option LiveInput} (Err why)) fed.Nothing feed feed'
       → (why ≡ fault.Failed → end ≡ live_end.ReadFault) → (why ≡ fault.WantOfMemory → end ≡ live_end.View ending.WantOfMemory)
       → Stopped tells address lines s end (live_outside feed w net link) (live_outside feed' w net link)
-  feed_stops lines s feed feed' w net link fault.Failed end few asks failed wanted =
-      record { turns = None ∷ []; last = None; cut = Some (record { step = Asks fed.Nothing; came = Failed }); acts = inr (inl ((asks, refl), refl)); ends = failed refl; fair = (few, tt) }
-  feed_stops lines s feed feed' w net link fault.WantOfMemory end few asks failed wanted =
-      record { turns = None ∷ []; last = None; cut = Some (record { step = Asks fed.Nothing; came = WantedMemory }); acts = inr (inr ((asks, refl), refl)); ends = wanted refl; fair = (few, tt) }
+  feed_stops lines s feed feed' w net link fault.Failed end wants few asks failed wanted =
+      record { turns = None ∷ []; last = None; cut = Some (record { step = Asks fed.Nothing; came = Failed }); acts = inr (inl ((asks, refl), refl)); ends = failed refl; fair = (few, tt); wants = (wants, tt); fit = λ none. tt }
+  feed_stops lines s feed feed' w net link fault.WantOfMemory end wants few asks failed wanted =
+      record { turns = None ∷ []; last = None; cut = Some (record { step = Asks fed.Nothing; came = WantedMemory }); acts = inr (inr ((asks, refl), refl)); ends = wanted refl; fair = (few, tt); wants = (wants, tt); fit = λ none. tt }
 
   -- time goes by, or none
   pub pauses_act : (held : Bool) (feed feed' : K) (w : W) (net : N) (link : Option L) → PausesBy tells.feed held feed feed' → LiveActs tells (pauses held) None (live_outside feed w net link) (live_outside feed' w net link)
@@ -50,21 +50,23 @@ module _ {K W N L : Type 0} (tells : LiveTells K W N L) (address : List ℕ) whe
   -- ---- a view that is told something
 
   -- it answers, and all of that is done
-  pub told_turn : (lines : ℕ) (Behind : ℕ → Type 0) (s s' : LiveState) (told : LiveInput) (o0 o1 o2 o3 : LiveOutside K W N L) → IsDue lines (Some told) → Behind (lines_behind lines (Some told)) → LiveActs tells (asked address told) None o0 o1 → LiveActs tells (answers (live_step s told)) None o1 o2
+  pub told_turn : (lines : ℕ) (Behind : ℕ → Type 0) (s s' : LiveState) (told : LiveInput) (o0 o1 o2 o3 : LiveOutside K W N L) → IsDue lines (Some told) → IsWanted s (Some told) → Behind (lines_behind lines (Some told)) → LiveActs tells (asked address told) None o0 o1 → LiveActs tells (answers (live_step s told)) None o1 o2
       → LiveActs tells (pauses (is_held s.holds s.phase told)) None o2 o3 → StepsTo s told s' → Turned tells address lines Behind s s' o0 o3
-  told_turn lines Behind s s' told o0 o1 o2 o3 due behind asks acts rests is = record {
+  told_turn lines Behind s s' told o0 o1 o2 o3 due wants behind asks acts rests is = record {
     turns = Some told ∷ [];
     acts = subst (λ ss. LiveActs tells ss None o0 o3) (sym (append-nil (told_steps address s told)))
         (acts_then tells (asked address told) (answers (live_step s told) ++ pauses (is_held s.holds s.phase told)) None o0 o1 o3 asks (acts_then tells (answers (live_step s told)) (pauses (is_held s.holds s.phase told)) None o1 o2 o3 acts rests));
     state = sym is.is;
     fair = (due, tt);
+    wants = (wants, tt);
+    fit = (is.fit, tt);
     behind = behind;
   }
 
   -- it answers, and something of that is not done
-  pub answer_stops : (lines : ℕ) (s : LiveState) (told : LiveInput) (end : ViewEnd) (o0 o1 o2 : LiveOutside K W N L) (cut : LiveCut) → IsDue lines (Some told) → LiveActs tells (asked address told) None o0 o1 → LiveActs tells (answers (live_step s told)) (Some cut) o1 o2
+  pub answer_stops : (lines : ℕ) (s : LiveState) (told : LiveInput) (end : ViewEnd) (o0 o1 o2 : LiveOutside K W N L) (cut : LiveCut) → IsDue lines (Some told) → IsWanted s (Some told) → LiveActs tells (asked address told) None o0 o1 → LiveActs tells (answers (live_step s told)) (Some cut) o1 o2
       → IsLiveCutEnd cut.came cut.step (live_end.View end) → Stopped tells address lines s (live_end.View end) o0 o2
-  answer_stops lines s told end o0 o1 o2 cut due asks acts ends =
+  answer_stops lines s told end o0 o1 o2 cut due wants asks acts ends =
       let own = acts_then tells (asked address told) (answers (live_step s told) ++ pauses (is_held s.holds s.phase told)) (Some cut) o0 o1 o2 asks (acts_cut tells (answers (live_step s told)) (pauses (is_held s.holds s.phase told)) cut o1 o2 acts) in
       record {
         turns = Some told ∷ [];
@@ -73,34 +75,36 @@ module _ {K W N L : Type 0} (tells : LiveTells K W N L) (address : List ℕ) whe
         acts = acts_cut tells (told_steps address s told ++ []) [] cut o0 o2 (acts_cut tells (told_steps address s told) [] cut o0 o2 own);
         ends = ends;
         fair = (due, tt);
+        wants = (wants, tt);
+        fit = λ none. absurd cc;
       }
 
   -- it has no memory for an answer
-  pub told_wants : (lines : ℕ) (s : LiveState) (told : LiveInput) (o0 o1 : LiveOutside K W N L) → IsDue lines (Some told) → LiveActs tells (asked address told) None o0 o1 → Stopped tells address lines s (live_end.View ending.WantOfMemory) o0 o1
-  told_wants lines s told o0 o1 due asks = record { turns = []; last = Some told; cut = None; acts = asks; ends = refl; fair = (due, tt) }
+  pub told_wants : (lines : ℕ) (s : LiveState) (told : LiveInput) (o0 o1 : LiveOutside K W N L) → IsDue lines (Some told) → IsWanted s (Some told) → LiveActs tells (asked address told) None o0 o1 → Stopped tells address lines s (live_end.View ending.WantOfMemory) o0 o1
+  told_wants lines s told o0 o1 due wants asks = record { turns = []; last = Some told; cut = None; acts = asks; ends = refl; fair = (due, tt); wants = (wants, tt); fit = λ none. tt }
 
   -- all that may come of it, but for the time that goes by
-  pub tell_stops : (lines : ℕ) (s : LiveState) (told : LiveInput) (end : ViewEnd) (feed : K) (net : N) (w w' : W) (l l' : L) (o0 : LiveOutside K W N L) → IsDue lines (Some told) → LiveActs tells (asked address told) None o0 (live_outside feed w net (Some l))
+  pub tell_stops : (lines : ℕ) (s : LiveState) (told : LiveInput) (end : ViewEnd) (feed : K) (net : N) (w w' : W) (l l' : L) (o0 : LiveOutside K W N L) → IsDue lines (Some told) → IsWanted s (Some told) → LiveActs tells (asked address told) None o0 (live_outside feed w net (Some l))
       → AnswersOrNot tells.out tells.links (live_step s told) (Err end) w w' l l' → Stopped tells address lines s (live_end.View end) o0 (live_outside feed w' net (Some l'))
-  tell_stops lines s told end feed net w w' l l' o0 due asks (inl not) =
+  tell_stops lines s told end feed net w w' l l' o0 due wants asks (inl not) =
       let c = answers_cut tells feed net (live_step s told) end w w' l l' not in
-      answer_stops lines s told end o0 (live_outside feed w net (Some l)) (live_outside feed w' net (Some l')) c.cut due asks c.acts c.ends
-  tell_stops lines s told end feed net w w' l l' o0 due asks (inr (is, out, link)) =
+      answer_stops lines s told end o0 (live_outside feed w net (Some l)) (live_outside feed w' net (Some l')) c.cut due wants asks c.acts c.ends
+  tell_stops lines s told end feed net w w' l l' o0 due wants asks (inr (is, out, link)) =
       let same : end ≡ ending.WantOfMemory = cc in
       let last : live_outside feed w net (Some l) ≡ live_outside feed w' net (Some l') = sym (ap (λ (x : W). live_outside feed x net (Some l')) out ∙ ap (λ (x : L). live_outside feed w net (Some x)) link) in
       subst (λ (e : ViewEnd). Stopped tells address lines s (live_end.View e) o0 (live_outside feed w' net (Some l'))) (sym same)
-      (subst (λ o. Stopped tells address lines s (live_end.View ending.WantOfMemory) o0 o) last (told_wants lines s told o0 (live_outside feed w net (Some l)) due asks))
+      (subst (λ o. Stopped tells address lines s (live_end.View ending.WantOfMemory) o0 o) last (told_wants lines s told o0 (live_outside feed w net (Some l)) due wants asks))
 
   pub all_done : (done : Result ⊤ ViewEnd) (well : ⊤) → done ≡ Ok well → (t : LiveTold) (w w' : W) (l l' : L) → AnswersOrNot tells.out tells.links t done w w' l l' → AnswersAll tells.out tells.links t w w' l l'
   all_done (Ok it) well is t w w' l l' (inl all) = all
   all_done (Ok it) well is t w w' l l' (inr (not, out, link)) = absurd cc
   all_done (Err end) well is t w w' l l' told = absurd cc
 
-  pub tell_turns : (lines : ℕ) (Behind : ℕ → Type 0) (s s' : LiveState) (told : LiveInput) (feed feed' : K) (net : N) (w w' : W) (l l' : L) (o0 : LiveOutside K W N L) → IsDue lines (Some told) → Behind (lines_behind lines (Some told)) → LiveActs tells (asked address told) None o0 (live_outside feed w net (Some l))
+  pub tell_turns : (lines : ℕ) (Behind : ℕ → Type 0) (s s' : LiveState) (told : LiveInput) (feed feed' : K) (net : N) (w w' : W) (l l' : L) (o0 : LiveOutside K W N L) → IsDue lines (Some told) → IsWanted s (Some told) → Behind (lines_behind lines (Some told)) → LiveActs tells (asked address told) None o0 (live_outside feed w net (Some l))
       → AnswersAll tells.out tells.links (live_step s told) w w' l l' → PausesBy tells.feed (is_held s.holds s.phase told) feed feed' → StepsTo s told s'
       → Turned tells address lines Behind s s' o0 (live_outside feed' w' net (Some l'))
-  tell_turns lines Behind s s' told feed feed' net w w' l l' o0 due behind asks all rests is =
-      told_turn lines Behind s s' told o0 (live_outside feed w net (Some l)) (live_outside feed w' net (Some l')) (live_outside feed' w' net (Some l')) due behind asks (answers_act tells feed net (live_step s told) w w' l l' all)
+  tell_turns lines Behind s s' told feed feed' net w w' l l' o0 due wants behind asks all rests is =
+      told_turn lines Behind s s' told o0 (live_outside feed w net (Some l)) (live_outside feed w' net (Some l')) (live_outside feed' w' net (Some l')) due wants behind asks (answers_act tells feed net (live_step s told) w w' l l' all)
       (pauses_act (is_held s.holds s.phase told) feed feed' w' net (Some l') rests) is
 
 -- ---- whether another link is wanted in place of one that is gone
@@ -169,6 +173,13 @@ fed_due lines input.Linked is few = absurd is
 fed_due lines input.LinkFailed is few = absurd is
 fed_due lines (input.Says what) is few = absurd is
 
+pub fed_wanted : (s : LiveState) (told : LiveInput) → IsFed (Some told) → WantsInput s → IsWanted s (Some told)
+fed_wanted s (input.Line bytes) is wants = wants
+fed_wanted s input.Closed is wants = wants
+fed_wanted s input.Linked is wants = absurd is
+fed_wanted s input.LinkFailed is wants = absurd is
+fed_wanted s (input.Says what) is wants = absurd is
+
 module _ {K W N L : Type 0} (tells : LiveTells K W N L) (address : List ℕ) where
   -- the feed told something
   feed_asks : (told : LiveInput) → IsFed (Some told) → (feed feed' : K) (w : W) (net : N) (l : L) → AsksFeed tells.feed Well (fed_of (Some told)) feed feed'
@@ -179,40 +190,42 @@ module _ {K W N L : Type 0} (tells : LiveTells K W N L) (address : List ℕ) whe
   feed_asks input.LinkFailed is feed feed' w net l asks = absurd is
   feed_asks (input.Says what) is feed feed' w net l asks = absurd is
 
-  pub feed_turn : (lines counted : ℕ) (s s' : LiveState) (told : LiveInput) (feed feed' : K) (net : N) (w w' : W) (l l' : L) (done : Result ⊤ ViewEnd) (well : ⊤) → done ≡ Ok well → lines < most_lines → lines_behind lines (Some told) ≡ counted → IsFed (Some told) → AsksFeed tells.feed Well (fed_of (Some told)) feed feed'
+  pub feed_turn : (lines counted : ℕ) (s s' : LiveState) (told : LiveInput) (feed feed' : K) (net : N) (w w' : W) (l l' : L) (done : Result ⊤ ViewEnd) (well : ⊤) → done ≡ Ok well → WantsInput s → lines < most_lines → lines_behind lines (Some told) ≡ counted → IsFed (Some told) → AsksFeed tells.feed Well (fed_of (Some told)) feed feed'
       → AnswersOrNot tells.out tells.links (live_step s told) done w w' l l' → StepsTo s told s' → Turned tells address lines (AreCounted counted) s s' (live_outside feed w net (Some l)) (live_outside feed' w' net (Some l'))
-  feed_turn lines counted s s' told feed feed' net w w' l l' done well did few behind fed asks answers is =
-      tell_turns tells address lines (AreCounted counted) s s' told feed' feed' net w w' l l' (live_outside feed w net (Some l)) (fed_due lines told fed few) behind (feed_asks told fed feed feed' w net l asks) (all_done tells address done well did (live_step s told) w w' l l' answers)
+  feed_turn lines counted s s' told feed feed' net w w' l l' done well did wants few behind fed asks answers is =
+      tell_turns tells address lines (AreCounted counted) s s' told feed' feed' net w w' l l' (live_outside feed w net (Some l)) (fed_due lines told fed few) (fed_wanted s told fed wants) behind (feed_asks told fed feed feed' w net l asks) (all_done tells address done well did (live_step s told) w w' l l' answers)
       (subst (λ (b : Bool). PausesBy tells.feed b feed' feed') (sym (not_held s.holds s.phase told fed)) refl) is
 
-  pub feed_turn_stops : (lines : ℕ) (s : LiveState) (told : LiveInput) (feed feed' : K) (net : N) (w w' : W) (l l' : L) (end : ViewEnd) → lines < most_lines → IsFed (Some told) → AsksFeed tells.feed Well (fed_of (Some told)) feed feed'
+  pub feed_turn_stops : (lines : ℕ) (s : LiveState) (told : LiveInput) (feed feed' : K) (net : N) (w w' : W) (l l' : L) (end : ViewEnd) → WantsInput s → lines < most_lines → IsFed (Some told) → AsksFeed tells.feed Well (fed_of (Some told)) feed feed'
       → AnswersOrNot tells.out tells.links (live_step s told) (Err end) w w' l l' → Stopped tells address lines s (live_end.View end) (live_outside feed w net (Some l)) (live_outside feed' w' net (Some l'))
-  feed_turn_stops lines s told feed feed' net w w' l l' end few fed asks answers =
-      tell_stops tells address lines s told end feed' net w w' l l' (live_outside feed w net (Some l)) (fed_due lines told fed few) (feed_asks told fed feed feed' w net l asks) answers
+  feed_turn_stops lines s told feed feed' net w w' l l' end wants few fed asks answers =
+      tell_stops tells address lines s told end feed' net w w' l l' (live_outside feed w net (Some l)) (fed_due lines told fed few) (fed_wanted s told fed wants) (feed_asks told fed feed feed' w net l asks) answers
 
   -- the link said something
   link_asks : (what : Heard) (feed : K) (w : W) (net : N) (l l' : L) → HearsAny tells.links Well what l l' → LiveActs tells (asked address (input.Says what)) None (live_outside feed w net (Some l)) (live_outside feed w net (Some l'))
   link_asks what feed w net l l' hears = inl (live_outside feed w net (Some l'), (hears, refl), refl)
 
-  pub link_turn : (lines counted : ℕ) (s s' : LiveState) (what : Heard) (feed feed' : K) (net : N) (w w' : W) (l m l' : L) → most_lines ≤ lines → 0 ≡ counted → HearsAny tells.links Well what l m → AnswersAll tells.out tells.links (live_step s (input.Says what)) w w' m l'
+  pub link_turn : (lines counted : ℕ) (s s' : LiveState) (what : Heard) (feed feed' : K) (net : N) (w w' : W) (l m l' : L) → WantsInput s → most_lines ≤ lines → 0 ≡ counted → HearsAny tells.links Well what l m → AnswersAll tells.out tells.links (live_step s (input.Says what)) w w' m l'
       → PausesBy tells.feed (is_held s.holds s.phase (input.Says what)) feed feed' → StepsTo s (input.Says what) s' → Turned tells address lines (AreCounted counted) s s' (live_outside feed w net (Some l)) (live_outside feed' w' net (Some l'))
-  link_turn lines counted s s' what feed feed' net w w' l m l' many none hears all rests is =
-      tell_turns tells address lines (AreCounted counted) s s' (input.Says what) feed feed' net w w' m l' (live_outside feed w net (Some l)) many none (link_asks what feed w net l m hears) all rests is
+  link_turn lines counted s s' what feed feed' net w w' l m l' wants many none hears all rests is =
+      tell_turns tells address lines (AreCounted counted) s s' (input.Says what) feed feed' net w w' m l' (live_outside feed w net (Some l)) many wants none (link_asks what feed w net l m hears) all rests is
 
-  pub link_turn_stops : (lines : ℕ) (s : LiveState) (what : Heard) (feed : K) (net : N) (w w' : W) (l m l' : L) (end : ViewEnd) → most_lines ≤ lines → HearsAny tells.links Well what l m → AnswersOrNot tells.out tells.links (live_step s (input.Says what)) (Err end) w w' m l'
+  pub link_turn_stops : (lines : ℕ) (s : LiveState) (what : Heard) (feed : K) (net : N) (w w' : W) (l m l' : L) (end : ViewEnd) → WantsInput s → most_lines ≤ lines → HearsAny tells.links Well what l m → AnswersOrNot tells.out tells.links (live_step s (input.Says what)) (Err end) w w' m l'
       → Stopped tells address lines s (live_end.View end) (live_outside feed w net (Some l)) (live_outside feed w' net (Some l'))
-  link_turn_stops lines s what feed net w w' l m l' end many hears answers =
-      tell_stops tells address lines s (input.Says what) end feed net w w' m l' (live_outside feed w net (Some l)) many (link_asks what feed w net l m hears) answers
+  link_turn_stops lines s what feed net w w' l m l' end wants many hears answers =
+      tell_stops tells address lines s (input.Says what) end feed net w w' m l' (live_outside feed w net (Some l)) many wants (link_asks what feed w net l m hears) answers
 
   -- there was no memory for what it said
-  pub link_wants : (lines : ℕ) (s : LiveState) (feed : K) (net : N) (w : W) (l l' : L) → most_lines ≤ lines → HearsAny tells.links WantedMemory heard.Quiet l l' → Stopped tells address lines s (live_end.View ending.WantOfMemory) (live_outside feed w net (Some l)) (live_outside feed w net (Some l'))
-  link_wants lines s feed net w l l' many wants = record {
+  pub link_wants : (lines : ℕ) (s : LiveState) (feed : K) (net : N) (w : W) (l l' : L) → WantsInput s → most_lines ≤ lines → HearsAny tells.links WantedMemory heard.Quiet l l' → Stopped tells address lines s (live_end.View ending.WantOfMemory) (live_outside feed w net (Some l)) (live_outside feed w net (Some l'))
+  link_wants lines s feed net w l l' is many wants = record {
     turns = Some (input.Says heard.Quiet) ∷ [];
     last = None;
     cut = Some (record { step = Hears heard.Quiet; came = WantedMemory });
     acts = inr (inr ((wants, refl), refl));
     ends = refl;
     fair = (many, tt);
+    wants = (is, tt);
+    fit = λ none. absurd cc;
   }
 
 -- ---- how many links are left

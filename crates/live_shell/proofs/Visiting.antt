@@ -80,9 +80,9 @@ module _ {K W N L : Type 0} (tells : LiveTells K W N L) (address : List ℕ) whe
   missed_acts from feed w n n' back makes = inl (live_outside feed w n None, (refl, back.0, back.1), inl (live_outside feed w n' None, (refl, makes, refl), refl))
 
   -- there was no memory for one
-  pub made_wants : {A : Type 0} (lines : ℕ) (s last : LiveState) (from : LiveOutside K W N L) (feed : K) (w : W) (n n' : N) → GoesBack tells from (live_outside feed w n None) → MakesLink tells.net tells.links WantedMemory address n n' None
+  pub made_wants : {A : Type 0} (lines : ℕ) (s last : LiveState) (from : LiveOutside K W N L) (feed : K) (w : W) (n n' : N) → WantsLink s → GoesBack tells from (live_outside feed w n None) → MakesLink tells.net tells.links WantedMemory address n n' None
       → TurnsAndBack {A = A} tells address lines s last (Err (live_end.View ending.WantOfMemory)) from (live_outside feed w n' None)
-  made_wants lines s last from feed w n n' back makes = record {
+  made_wants lines s last from feed w n n' is back makes = record {
     mid = live_outside feed w n' None;
     turns = record {
       turns = [];
@@ -91,26 +91,28 @@ module _ {K W N L : Type 0} (tells : LiveTells K W N L) (address : List ℕ) whe
       acts = inl (live_outside feed w n None, (refl, back.0, back.1), inr (inr ((refl, makes, refl), refl)));
       ends = refl;
       fair = (tt, tt);
+      wants = (is, tt);
+      fit = λ none. tt;
     };
     back = (refl, refl);
   }
 
   -- none was made, and the view was told so
-  missed_turned : (lines : ℕ) (s s' : LiveState) (from : LiveOutside K W N L) (feed feed' : K) (w : W) (n n' : N) → GoesBack tells from (live_outside feed w n None) → MakesLink tells.net tells.links Failed address n n' None → wanted s.phase ≡ want.Link
+  missed_turned : (lines : ℕ) (s s' : LiveState) (from : LiveOutside K W N L) (feed feed' : K) (w : W) (n n' : N) → GoesBack tells from (live_outside feed w n None) → MakesLink tells.net tells.links Failed address n n' None → WantsLink s
       → StepsTo s input.LinkFailed s' → PausesBy tells.feed (is_held s.holds s.phase input.LinkFailed) feed feed' → Turned tells address lines (AreAny {A = ⊤} tt) s s' from (live_outside feed' w n' None)
   missed_turned lines s s' from feed feed' w n n' back makes wants steps rests =
       let at = live_outside feed w n' None in
-      told_turn tells address lines (AreAny {A = ⊤} tt) s s' input.LinkFailed from at at (live_outside feed' w n' None) tt tt (missed_acts from feed w n n' back makes)
-      (subst (λ (b : Bool). LiveActs tells (prints (here_text b)) None at at) (sym (missed_here (nat_lt 0 s.holds) s.phase s.joined wants)) refl)
+      told_turn tells address lines (AreAny {A = ⊤} tt) s s' input.LinkFailed from at at (live_outside feed' w n' None) tt wants tt (missed_acts from feed w n n' back makes)
+      (subst (λ (b : Bool). LiveActs tells (prints (here_text b)) None at at) (sym (missed_here (nat_lt 0 s.holds) s.phase s.joined wants.is)) refl)
       (pauses_act tells address (is_held s.holds s.phase input.LinkFailed) feed feed' w n' None rests) steps
 
-  pub missed : (lines : ℕ) (s s' : LiveState) (result : Result ⊤ LiveEnd) (from : LiveOutside K W N L) (feed feed' : K) (w : W) (n n' : N) → GoesBack tells from (live_outside feed w n None) → MakesLink tells.net tells.links Failed address n n' None → wanted s.phase ≡ want.Link
+  pub missed : (lines : ℕ) (s s' : LiveState) (result : Result ⊤ LiveEnd) (from : LiveOutside K W N L) (feed feed' : K) (w : W) (n n' : N) → GoesBack tells from (live_outside feed w n None) → MakesLink tells.net tells.links Failed address n n' None → WantsLink s
       → OnOk result (StepsTo s input.LinkFailed s') → OnOk result (PausesBy tells.feed (is_held s.holds s.phase input.LinkFailed) feed feed') → OnErr result (feed' ≡ feed) → IfErr result (λ end. end ≡ live_end.View ending.WantOfMemory)
       → TurnsAndBack tells address lines s s' result from (live_outside feed' w n' None)
   missed lines s s' (Ok it) from feed feed' w n n' back makes wants steps rests kept ends =
       record { mid = live_outside feed' w n' None; turns = missed_turned lines s s' from feed feed' w n n' back makes wants steps rests; back = (refl, refl) }
   missed lines s s' (Err end) from feed feed' w n n' back makes wants steps rests kept ends =
-      let stopped = told_wants tells address lines s input.LinkFailed from (live_outside feed w n' None) tt (missed_acts from feed w n n' back makes) in
+      let stopped = told_wants tells address lines s input.LinkFailed from (live_outside feed w n' None) tt wants (missed_acts from feed w n n' back makes) in
       record {
         mid = live_outside feed' w n' None;
         turns = subst (λ (e : LiveEnd). Stopped tells address lines s e from (live_outside feed' w n' None)) (sym ends)
@@ -121,12 +123,12 @@ module _ {K W N L : Type 0} (tells : LiveTells K W N L) (address : List ℕ) whe
   -- ---- on a link
 
   -- the view is told that it is there
-  pub entered : (lines : ℕ) (s s1 s2 : LiveState) (result : Result ⊤ LiveEnd) (from : LiveOutside K W N L) (feed feed' : K) (net : N) (w w1 w2 : W) (l l1 l2 : L) → LiveActs tells (asked address input.Linked) None from (live_outside feed w net (Some l))
+  pub entered : (lines : ℕ) (s s1 s2 : LiveState) (result : Result ⊤ LiveEnd) (from : LiveOutside K W N L) (feed feed' : K) (net : N) (w w1 w2 : W) (l l1 l2 : L) → WantsLink s → LiveActs tells (asked address input.Linked) None from (live_outside feed w net (Some l))
       → AnswersAll tells.out tells.links (live_step s input.Linked) w w1 l l1 → StepsTo s input.Linked s1 → Turns tells address 0 AreAny s1 s2 result (live_outside feed w1 net (Some l1)) (live_outside feed' w2 net (Some l2))
       → Turns tells address lines AreAny s s2 result from (live_outside feed' w2 net (Some l2))
-  entered lines s s1 s2 result from feed feed' net w w1 w2 l l1 l2 made all steps turns =
+  entered lines s s1 s2 result from feed feed' net w w1 w2 l l1 l2 wants made all steps turns =
       turns_then tells address lines 0 AreAny s s1 s2 result from (live_outside feed w1 net (Some l1)) (live_outside feed' w2 net (Some l2))
-      (tell_turns tells address lines (AreCounted 0) s s1 input.Linked feed feed net w w1 l l1 from tt refl made all (subst (λ (b : Bool). PausesBy tells.feed b feed feed) (sym (linked_not s.holds s.phase)) refl) steps) turns
+      (tell_turns tells address lines (AreCounted 0) s s1 input.Linked feed feed net w w1 l l1 from tt wants refl made all (subst (λ (b : Bool). PausesBy tells.feed b feed feed) (sym (linked_not s.holds s.phase)) refl) steps) turns
 
   pub visited : (lines : ℕ) (s s' : LiveState) (result : Result ⊤ LiveEnd) (from : LiveOutside K W N L) (feed feed' : K) (w w' : W) (n' n'' : N) (l' : L) → Turns tells address lines AreAny s s' result from (live_outside feed' w' n' (Some l')) → TakesBack tells.net tells.links l' n' n''
       → TurnsAndBack tells address lines s s' result from (live_outside feed' w' n'' None)
@@ -147,6 +149,8 @@ module _ {K W N L : Type 0} (tells : LiveTells K W N L) (address : List ℕ) whe
           acts = subst (λ ss. LiveActs tells ss None old so_far.mid) (sym (append-nil (steps_of address first turned.turns))) turned.acts;
           ends = inl (end, ap (λ (t : LiveState). t.phase) turned.state ∙ over_is s.phase end is, refl);
           fair = turned.fair;
+          wants = turned.wants;
+          fit = λ none. turned.fit;
         };
         back = so_far.back;
       }
@@ -167,7 +171,7 @@ module _ {K W N L : Type 0} (tells : LiveTells K W N L) (address : List ℕ) whe
 
   -- nothing was done
   pub none_yet : (s : LiveState) (feed : K) (w : W) (net : N) → TurnsAndBack {A = ⊤} tells address 0 s s (Ok tt) (live_outside feed w net None) (live_outside feed w net None)
-  none_yet s feed w net = record { mid = live_outside feed w net None; turns = record { turns = []; acts = refl; state = refl; fair = tt; behind = tt }; back = (refl, refl) }
+  none_yet s feed w net = record { mid = live_outside feed w net None; turns = record { turns = []; acts = refl; state = refl; fair = tt; wants = tt; fit = tt; behind = tt }; back = (refl, refl) }
 
   -- the view that a run begins with, as its caller names it
   pub ran_from : (s first : LiveState) (end : LiveEnd) (old new : LiveOutside K W N L) → s ≡ first → LiveRan tells address s end old new → LiveRan tells address first end old new
@@ -177,6 +181,6 @@ module _ {K W N L : Type 0} (tells : LiveTells K W N L) (address : List ℕ) whe
   pub ran_without : (s : LiveState) (feed : K) (w : W) (net : N) → LiveRan tells address s (live_end.View ending.WantOfMemory) (live_outside feed w net None) (live_outside feed w net None)
   ran_without s feed w net = record {
     mid = live_outside feed w net None;
-    stopped = record { turns = []; last = None; cut = None; acts = refl; ends = inr refl; fair = tt };
+    stopped = record { turns = []; last = None; cut = None; acts = refl; ends = inr refl; fair = tt; wants = tt; fit = λ none. tt };
     back = (refl, refl);
   }

@@ -58,13 +58,17 @@ PausesBy feed false old new = new ≡ old
 abbrev pub told_steps : List ℕ → LiveState → LiveInput → List LiveStep
 told_steps address s told = asked address told ++ (answers (live_step s told) ++ pauses (is_held s.holds s.phase told))
 
--- the view behind something that it is told
-pub record StepsTo (s : LiveState) (told : LiveInput) (behind : LiveState) : Type 0 where
-  pub is : behind ≡ (live_step s told).state
+-- the view after something that it is told, where each frame that it sent fits the wire
+pub record StepsTo (s : LiveState) (told : LiveInput) (after : LiveState) : Type 0 where
+  pub is : after ≡ (live_step s told).state
+  pub fit : (live_step s told).fit ≡ true
 
--- a view that wants a link
+-- a view that wants a link, and one that wants to be told something
 pub record WantsLink (s : LiveState) : Type 0 where
   pub is : wanted s.phase ≡ want.Link
+
+pub record WantsInput (s : LiveState) : Type 0 where
+  pub is : wanted s.phase ≡ want.Input
 
 -- the steps of turns, and the view behind them
 abbrev pub steps_of : List ℕ → LiveState → List Turn → List LiveStep
@@ -88,7 +92,7 @@ asks_last address (Some told) = asked address told
 abbrev pub most_lines : ℕ
 most_lines = 64
 
--- So many lines came in a row behind a turn, where so many came before it. Where no line had come, or none will, it counts as the most.
+-- So many lines came in a row after a turn, where so many came before it. Where no line had come, or none will, it counts as the most.
 abbrev pub lines_behind : ℕ → Turn → ℕ
 lines_behind lines None = most_lines
 lines_behind lines (Some input.Closed) = most_lines
@@ -99,7 +103,7 @@ abbrev pub lines_after : ℕ → List Turn → ℕ
 lines_after lines [] = lines
 lines_after lines (turn ∷ turns) = lines_after (lines_behind lines turn) turns
 
--- The feed has its turn until the most lines came in a row. Then the link is heard once. A link may be made behind any turn.
+-- The feed has its turn until the most lines came in a row. Then the link is heard once. A link may be made after any turn.
 abbrev pub IsDue : ℕ → Turn → Type 0
 IsDue lines None = lines < most_lines
 IsDue lines (Some input.Closed) = lines < most_lines
@@ -107,10 +111,28 @@ IsDue lines (Some (input.Line bytes)) = lines < most_lines
 IsDue lines (Some (input.Says what)) = most_lines ≤ lines
 IsDue lines (Some other) = ⊤
 
--- each of these turns was due, behind so many lines
+-- each of these turns was due, after so many lines
 abbrev pub IsFair : ℕ → List Turn → Type 0
 IsFair lines [] = ⊤
 IsFair lines (turn ∷ turns) = IsDue lines turn × IsFair (lines_behind lines turn) turns
+
+-- A view that wants a link is told that one is there, or that none was made. It is told all else where it wants to be told something.
+abbrev pub IsWanted : LiveState → Turn → Type 0
+IsWanted s (Some input.Linked) = WantsLink s
+IsWanted s (Some input.LinkFailed) = WantsLink s
+IsWanted s turn = WantsInput s
+
+-- so is each of these turns, from this state of the view on
+abbrev pub AreWanted : LiveState → List Turn → Type 0
+AreWanted s [] = ⊤
+AreWanted s (None ∷ turns) = IsWanted s None × AreWanted s turns
+AreWanted s (Some told ∷ turns) = IsWanted s (Some told) × AreWanted (live_step s told).state turns
+
+-- each frame that was sent in these turns fits the wire
+abbrev pub AreFit : LiveState → List Turn → Type 0
+AreFit s [] = ⊤
+AreFit s (None ∷ turns) = AreFit s turns
+AreFit s (Some told ∷ turns) = ((live_step s told).fit ≡ true) × AreFit (live_step s told).state turns
 
 -- with what the view was told last
 abbrev pub and_last : List Turn → Option LiveInput → List Turn
@@ -134,16 +156,19 @@ EndsLive last None None end = ((how : ViewEnd) × (last ≡ Over how) × (end �
 EndsLive last (Some told) None end = end ≡ live_end.View ending.WantOfMemory
 EndsLive last more (Some cut) end = IsLiveCutEnd cut.came cut.step end
 
--- Turns that were all done lead from one state of the outside, and of the view, to another. Each was due, behind so many lines, and so many
--- lines came in a row behind them.
+-- Turns that were all done lead from one state of the outside, and of the view, to another. Each was due, after so many lines, and was
+-- wanted, and each frame that was sent fits the wire. So many lines came in a row after them.
 pub record Turned {K W N L : Type 0} (tells : LiveTells K W N L) (address : List ℕ) (lines : ℕ) (Behind : ℕ → Type 0) (first last : LiveState) (old new : LiveOutside K W N L) : Type 0 where
   pub turns : List Turn
   pub acts : LiveActs tells (steps_of address first turns) None old new
   pub state : state_after first turns ≡ last
   pub fair : IsFair lines turns
+  pub wants : AreWanted first turns
+  pub fit : AreFit first turns
   pub behind : Behind (lines_after lines turns)
 
--- turns were done up to an end: up to a cut, or until the view had ended, or had no memory for what it was told last; each was due
+-- turns were done up to an end: up to a cut, or until the view had ended, or had no memory for what it was told last; each was due, and
+-- was wanted. Where no call cut them, each frame that was sent fits the wire.
 pub record Stopped {K W N L : Type 0} (tells : LiveTells K W N L) (address : List ℕ) (lines : ℕ) (first : LiveState) (end : LiveEnd) (old new : LiveOutside K W N L) : Type 0 where
   pub turns : List Turn
   pub last : Option LiveInput
@@ -151,6 +176,8 @@ pub record Stopped {K W N L : Type 0} (tells : LiveTells K W N L) (address : Lis
   pub acts : LiveActs tells (steps_of address first turns ++ asks_last address last) cut old new
   pub ends : EndsLive (state_after first turns).phase last cut end
   pub fair : IsFair lines (and_last turns last)
+  pub wants : AreWanted first (and_last turns last)
+  pub fit : cut ≡ None → AreFit first turns
 
 -- A run of a view from one state to its end: feed and link were asked in some order, and its steps are those of what they told, up to a
 -- cut. Then the link that is in use, if any, goes back.
@@ -175,7 +202,7 @@ AreAny it lines = ⊤
 pub record Attends {K W N L A : Type 0} (tells : LiveTells K W N L) (lines : ℕ) (Behind : A → ℕ → Type 0) (first last : List ℕ → LiveState) (result : Result A LiveEnd) (feed feed' : K) (w w' : W) (l l' : L) : Type 0 where
   pub turns : (address : List ℕ) (net : N) → Turns tells address lines Behind (first address) (last address) result (live_outside feed w net (Some l)) (live_outside feed' w' net (Some l'))
 
--- the same from the making of the link on, behind any lines
+-- the same from the making of the link on, after any lines
 pub record Enters {K W N L A : Type 0} (tells : LiveTells K W N L) (first last : List ℕ → LiveState) (result : Result A LiveEnd) (feed feed' : K) (w w' : W) (l l' : L) : Type 0 where
   pub turns : (address : List ℕ) (net : N) (lines : ℕ) (from : LiveOutside K W N L) → LiveActs tells (asked address input.Linked) None from (live_outside feed w net (Some l))
       → Turns tells address lines AreAny (first address) (last address) result from (live_outside feed' w' net (Some l'))
@@ -186,6 +213,6 @@ pub record TurnsAndBack {K W N L A : Type 0} (tells : LiveTells K W N L) (addres
   pub turns : Turns tells address lines AreAny first last result old mid
   pub back : GoesBack tells mid new
 
--- what a link comes to that is made behind one that goes back, behind any lines
+-- what a link comes to that is made after one that goes back, after any lines
 pub record Visits {K W N L A : Type 0} (tells : LiveTells K W N L) (address : List ℕ) (first last : LiveState) (result : Result A LiveEnd) (old new : LiveOutside K W N L) : Type 0 where
   pub turns : (lines : ℕ) (from : LiveOutside K W N L) → GoesBack tells from old → TurnsAndBack tells address lines first last result from new

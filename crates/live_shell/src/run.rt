@@ -9,7 +9,7 @@ ghost use Rattle.live_view.specs.Script.{first_state};
 ghost use Rattle.live_view.specs.View.{IsLive, live_state};
 ghost use Rattle.live_view.specs.declared.input.LiveInput.TheVariants as tells;
 ghost use Rattle.live_shell.specs.LiveSteps.{feed_tells, live_outside, live_tells};
-ghost use Rattle.live_shell.specs.LiveRun.{AreAny, AreCounted, Attends, Enters, LiveRan, PausesBy, StepsTo, Visits, WantsLink, lines_behind};
+ghost use Rattle.live_shell.specs.LiveRun.{AreAny, AreCounted, Attends, Enters, LiveRan, PausesBy, StepsTo, Visits, WantsInput, WantsLink, lines_behind};
 
 use crate::calls::{ask, hear, pause_if};
 use crate::ending::LiveEnd;
@@ -74,7 +74,7 @@ fn lines_behind(told: &LiveInput, lines: u32) -> u32
     }
 }
 
-/// A turn of the feed, behind so many lines in a row: how many there are then.
+/// A turn of the feed, after so many lines in a row: how many there are then.
 fn turn_feed<N: Net, K: Feed, W: Sink>(
     view: &mut LiveView,
     link: &mut N::Conn,
@@ -83,6 +83,7 @@ fn turn_feed<N: Net, K: Feed, W: Sink>(
     lines: u32,
 ) -> Result<u32, LiveEnd>
     requires live { IsLive view.old }
+    requires wants { (address : List ℕ) → WantsInput (live_state address view.old) }
     requires few { lines < 64 }
     ensures live { IsLive view.new }
     ensures turned { Attends
@@ -114,6 +115,7 @@ fn turn_link<N: Net, K: Feed, W: Sink>(
     out: &mut W,
 ) -> Result<u32, LiveEnd>
     requires live { IsLive view.old }
+    requires wants { (address : List ℕ) → WantsInput (live_state address view.old) }
     ensures live { IsLive view.new }
     ensures turned { (lines : ℕ) → 64 ≤ lines → Attends
         (live_tells (feed_tells K.coming K.told K.faults) (output_tells W.written W.faults W.wants) (net_tells N.coming N.over N.asked N.faults N.lent N.link_counts)
@@ -136,7 +138,7 @@ fn turn_link<N: Net, K: Feed, W: Sink>(
     Ok(0)
 }
 
-/// A turn of the feed, or behind so many lines in a row of the link.
+/// A turn of the feed, or after so many lines in a row of the link.
 fn turn<N: Net, K: Feed, W: Sink>(
     view: &mut LiveView,
     link: &mut N::Conn,
@@ -145,6 +147,7 @@ fn turn<N: Net, K: Feed, W: Sink>(
     lines: u32,
 ) -> Result<u32, LiveEnd>
     requires live { IsLive view.old }
+    requires wants { (address : List ℕ) → WantsInput (live_state address view.old) }
     ensures live { IsLive view.new }
     ensures turned { Attends
         (live_tells (feed_tells K.coming K.told K.faults) (output_tells W.written W.faults W.wants) (net_tells N.coming N.over N.asked N.faults N.lent N.link_counts)
@@ -195,6 +198,7 @@ fn enter<R: Wait, N: Net, K: Feed, W: Sink>(
     out: &mut W,
 ) -> Result<(), LiveEnd>
     requires live { IsLive view.old }
+    requires wants { (address : List ℕ) → WantsLink (live_state address view.old) }
     ensures live { IsLive view.new }
     ensures wants { (address : List ℕ) → OnOk result (wanted (live_state address view.new).phase ≡ want.Input → ⊥) }
     ensures turned { Enters

@@ -1,9 +1,10 @@
 -- What a part of a step does to what was told.
 use Rattle.std.proofs.Common.{arith, inl, inr, ◌≡◌, ◌==◌, Bool, true, false, if◌then◌else◌, ℕ, ◌<◌, ◌≤◌, ◌+◌, List, [], ◌∷◌, ◌++◌, length, drop, get_or, Option, Some, None, string_bytes, refl, sym, ap, subst, ◌∙◌, append_assoc, append-nil}
-use Rattle.std.specs.Prelude.{◌⊎◌, ⊤, codes, Result, Ok, Err, IfOk, OnOk}
+use Rattle.std.specs.Prelude.{◌&&◌, ◌⊎◌, ⊤, codes, Result, Ok, Err, IfOk, OnOk}
 use Rattle.tea_base.specs.declared.want.WantOfMemory.{WantOfMemory}
 use Rattle.wire_frames.specs.declared.frame.ClientFrame.{ClientFrame}
 use Rattle.wire_frames.specs.declared.frame.ClientFrame.TheVariants as client
+use Rattle.wire_frames.specs.Frames.{IsClientFrame}
 use Rattle.wire_frames.specs.Spelling.{client_spelling}
 use Rattle.view_shell.specs.declared.ending.ViewEnd.TheVariants as ending
 use Rattle.view_shell.specs.Phases.{Viewer, Phase, Task, Receiving, ToCatchUp, ToReach, ToSettle, Sending, Printing, Over, Leaves, Begins, Receives, TellsText, Aim, go_on, has_caught_up, after_frame, after_sync, quiet, finish, after_telling, after_rest, leave_session, receive, run, send_all, show_world, shown_text, world_text}
@@ -26,6 +27,7 @@ use Rattle.live_view.specs.declared.input.Place.{Place}
 use Rattle.live_view.specs.declared.input.Place.TheVariants as at
 use Rattle.view_shell.specs.declared.watcher.Watcher.{Watcher}
 use Rattle.view_shell.specs.declared.ending.ViewEnd.{ViewEnd}
+use Rattle.live_view.proofs.Fitting.{frame_fits}
 use Rattle.live_view.specs.Live.{Told, bad_line, done_lines, drive, lines_from, then_prints, then_sends, waits}
 use Rattle.replica_plain.specs.PlainReplica.{published_count}
 use Rattle.view_shell.proofs.Reaching.{caught_up, not_caught_up, not_reached, reached, settled, unsettled}
@@ -34,20 +36,21 @@ use Rattle.live_view.specs.declared.input.Goal.TheVariants as aim
 use Rattle.live_view.specs.Doing.{Comes, IsReadyAt, Leads, Tells, after, aim_of, came, phase_at, votes_at}
 
 -- a frame was sent
-pub after_send : (old new : LiveOutcome) (frame : ClientFrame) (t : Told) → new.frames ≡ old.frames ++ client_spelling frame ∷ [] → string_bytes new.text ≡ string_bytes old.text
+pub after_send : (old new : LiveOutcome) (frame : ClientFrame) (t : Told) → IsClientFrame frame → new.frames ≡ old.frames ++ client_spelling frame ∷ [] → string_bytes new.text ≡ string_bytes old.text
     → after old (then_sends frame t) ≡ after new t
-after_send old new frame t frames text =
+after_send old new frame t fits frames text =
     let sent : old.frames ++ client_spelling frame ∷ t.frames ≡ new.frames ++ t.frames = sym (append_assoc old.frames (client_spelling frame ∷ []) t.frames) ∙ ap (λ (l : List (List ℕ)). l ++ t.frames) (sym frames) in
-    ap (λ (l : List (List ℕ)). record { frames = l; text = string_bytes old.text ++ t.text; phase = t.phase }) sent
-    ∙ ap (λ (l : List ℕ). record { frames = new.frames ++ t.frames; text = l ++ t.text; phase = t.phase }) (sym text)
+    ap (λ (b : Bool). record { frames = old.frames ++ client_spelling frame ∷ t.frames; text = string_bytes old.text ++ t.text; fit = b && t.fit; phase = t.phase }) (frame_fits frame fits)
+    ∙ ap (λ (l : List (List ℕ)). record { frames = l; text = string_bytes old.text ++ t.text; fit = t.fit; phase = t.phase }) sent
+    ∙ ap (λ (l : List ℕ). record { frames = new.frames ++ t.frames; text = l ++ t.text; fit = t.fit; phase = t.phase }) (sym text)
 
 -- a text was printed
 pub after_text : (old new : LiveOutcome) (text : List ℕ) (t : Told) → new.frames ≡ old.frames → string_bytes new.text ≡ string_bytes old.text ++ text
     → after old (then_prints text t) ≡ after new t
 after_text old new text t frames is =
     let printed : string_bytes old.text ++ (text ++ t.text) ≡ string_bytes new.text ++ t.text = sym (append_assoc (string_bytes old.text) text t.text) ∙ ap (λ (l : List ℕ). l ++ t.text) (sym is) in
-    ap (λ (l : List ℕ). record { frames = old.frames ++ t.frames; text = l; phase = t.phase }) printed
-    ∙ ap (λ (l : List (List ℕ)). record { frames = l ++ t.frames; text = string_bytes new.text ++ t.text; phase = t.phase }) (sym frames)
+    ap (λ (l : List ℕ). record { frames = old.frames ++ t.frames; text = l; fit = t.fit; phase = t.phase }) printed
+    ∙ ap (λ (l : List (List ℕ)). record { frames = l ++ t.frames; text = string_bytes new.text ++ t.text; fit = t.fit; phase = t.phase }) (sym frames)
 
 pub finish_comes : (old new : LiveOutcome) (v w : Viewer) (text : List ℕ) → new.frames ≡ old.frames → string_bytes new.text ≡ string_bytes old.text ++ shown_text v text → w ≡ after_telling v
     → Comes old new (finish v text) w None
@@ -271,9 +274,9 @@ module _ (closed : Bool) (address : List ℕ) (old now : LiveOutcome) (first : T
 pub bad_told : (old new : LiveOutcome) (number : ℕ) (phase : Phase) → new.frames ≡ old.frames → string_bytes new.text ≡ string_bytes old.text ++ numbers_line (codes "bad-line") (number ∷ []) → after old (bad_line number phase) ≡ after new (waits phase)
 bad_told old new number phase frames text =
     let line = numbers_line (codes "bad-line") (number ∷ []) in
-    ap (λ (fs : List (List ℕ)). record { frames = fs ++ []; text = string_bytes old.text ++ line; phase = phase }) (sym frames)
-    ∙ ap (λ (t : List ℕ). record { frames = new.frames ++ []; text = t; phase = phase }) (sym text)
-    ∙ ap (λ (t : List ℕ). record { frames = new.frames ++ []; text = t; phase = phase }) (sym (append-nil (string_bytes new.text)))
+    ap (λ (fs : List (List ℕ)). record { frames = fs ++ []; text = string_bytes old.text ++ line; fit = true; phase = phase }) (sym frames)
+    ∙ ap (λ (t : List ℕ). record { frames = new.frames ++ []; text = t; fit = true; phase = phase }) (sym text)
+    ∙ ap (λ (t : List ℕ). record { frames = new.frames ++ []; text = t; fit = true; phase = phase }) (sym (append-nil (string_bytes new.text)))
 
 -- the end is reached
 pub over_comes : (out : LiveOutcome) (phase : Phase) (end : ViewEnd) (v : Viewer) → phase ≡ Over end → Comes out out phase v (Some (at.Gone end))

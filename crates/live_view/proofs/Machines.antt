@@ -166,21 +166,21 @@ held_tells out address w w' lines all goal how kept joins left =
 pub live_on : (old new : LiveView) (joined : Option ℕ) → new ≡ record old { joined = joined } → IsLive old → IsLive new
 live_on old new joined is live = subst IsLive (sym is) (record { knows = live.knows; ready = live.ready; lines = live.lines; lost = live.lost; empty = live.empty })
 
-pub told_all : (old new : LiveOutcome) (t : Told) (phase : Phase) → old.frames ≡ [] → string_bytes old.text ≡ [] → after old t ≡ after new (waits phase) → t ≡ record { frames = new.frames; text = string_bytes new.text; phase = phase }
+pub told_all : (old new : LiveOutcome) (t : Told) (phase : Phase) → old.frames ≡ [] → string_bytes old.text ≡ [] → after old t ≡ after new (waits phase) → t ≡ record { frames = new.frames; text = string_bytes new.text; fit = true; phase = phase }
 told_all old new t phase frames text is =
-    ap (λ (fs : List (List ℕ)). record { frames = fs ++ t.frames; text = t.text; phase = t.phase }) (sym frames)
-    ∙ ap (λ (s : List ℕ). record { frames = old.frames ++ t.frames; text = s ++ t.text; phase = t.phase }) (sym text)
+    ap (λ (fs : List (List ℕ)). record { frames = fs ++ t.frames; text = t.text; fit = t.fit; phase = t.phase }) (sym frames)
+    ∙ ap (λ (s : List ℕ). record { frames = old.frames ++ t.frames; text = s ++ t.text; fit = t.fit; phase = t.phase }) (sym text)
     ∙ is
-    ∙ ap (λ (fs : List (List ℕ)). record { frames = fs; text = string_bytes new.text ++ []; phase = phase }) (append-nil new.frames)
-    ∙ ap (λ (s : List ℕ). record { frames = new.frames; text = s; phase = phase }) (append-nil (string_bytes new.text))
+    ∙ ap (λ (fs : List (List ℕ)). record { frames = fs; text = string_bytes new.text ++ []; fit = true; phase = phase }) (append-nil new.frames)
+    ∙ ap (λ (s : List ℕ). record { frames = new.frames; text = s; fit = true; phase = phase }) (append-nil (string_bytes new.text))
 
 pub stepped : (t : Told) (frames : List (List ℕ)) (text : List ℕ) (phase : Phase) (closed closed' : Bool) (count count' holds holds' : ℕ) (joined joined' : Option ℕ) (lost arrived : Bool)
-    → t ≡ record { frames = frames; text = text; phase = phase } → closed ≡ closed' → count ≡ count' → holds ≡ holds' → joined ≡ joined' → lost ≡ false → arrived ≡ has_arrived phase joined
-    → ◌≡◌ {A = LiveTold} (record { frames = frames; text = text; here = arrived; state = record { phase = phase; closed = closed; count = count; holds = holds; joined = awaited arrived phase joined; lost = lost } })
+    → t ≡ record { frames = frames; text = text; fit = true; phase = phase } → closed ≡ closed' → count ≡ count' → holds ≡ holds' → joined ≡ joined' → lost ≡ false → arrived ≡ has_arrived phase joined
+    → ◌≡◌ {A = LiveTold} (record { frames = frames; text = text; fit = true; here = arrived; state = record { phase = phase; closed = closed; count = count; holds = holds; joined = awaited arrived phase joined; lost = lost } })
     (arrives t (record { phase = t.phase; closed = closed'; count = count'; holds = holds'; joined = joined'; lost = false }))
 stepped t frames text phase closed closed' count count' holds holds' joined joined' lost arrived is shut counted held entry whole here =
-    let one : Told = record { frames = frames; text = text; phase = phase } in
-    ap (λ (b : Bool). record { frames = frames; text = text; here = b; state = record { phase = phase; closed = closed; count = count; holds = holds; joined = awaited b phase joined; lost = lost } }) here
+    let one : Told = record { frames = frames; text = text; fit = true; phase = phase } in
+    ap (λ (b : Bool). record { frames = frames; text = text; fit = true; here = b; state = record { phase = phase; closed = closed; count = count; holds = holds; joined = awaited b phase joined; lost = lost } }) here
     ∙ ap (λ (b : Bool). arrives one (record { phase = phase; closed = b; count = count; holds = holds; joined = joined; lost = lost })) shut
     ∙ ap (λ (n : ℕ). arrives one (record { phase = phase; closed = closed'; count = n; holds = holds; joined = joined; lost = lost })) counted
     ∙ ap (λ (n : ℕ). arrives one (record { phase = phase; closed = closed'; count = count'; holds = n; joined = joined; lost = lost })) held

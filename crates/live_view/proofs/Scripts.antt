@@ -1,6 +1,6 @@
 -- A live view does what the script of its lines does.
 use Rattle.std.proofs.Common.{arith, ◌≡◌, ◌≤◌, ℕ, ◌+◌, ◌==◌, inl, inr, Bool, true, false, if◌then◌else◌, List, [], ◌∷◌, ◌++◌, map, Option, Some, None, refl, sym, ap, subst, ◌∙◌, append_assoc, append-nil}
-use Rattle.std.specs.Prelude.{nat_le}
+use Rattle.std.specs.Prelude.{◌&&◌, nat_le}
 use Rattle.tea_io.specs.Links.{most_quiets}
 use Rattle.std.proofs.lemmas.Bool.Decides.{nat_tests}
 use Rattle.tea_io.specs.declared.link.Heard.{Heard}
@@ -20,7 +20,9 @@ use Rattle.view_shell.specs.Viewers.{first_phase, first_viewer}
 use Rattle.live_view.specs.declared.input.LiveInput.{LiveInput}
 use Rattle.live_view.specs.declared.input.LiveInput.TheVariants as input
 use Rattle.live_view.specs.Lines.{LineRead, NoLine, Lines, Holds, lines_in, read_line}
-use Rattle.live_view.specs.Live.{LiveState, LiveTold, Told, arrives, awaited, drive, drives, goes_on, has_arrived, hears, holds_by, if_room, joined_as, line_at, lines_from, live_run, live_step, more_lines, one_more, or_joined, sends_all, still, then_prints, then_sends, then_told, told_in, waits, with_more}
+use Rattle.wire_frames.specs.Spelling.{client_spelling}
+use Rattle.live_view.proofs.Fitting.{and_assoc, frame_fits}
+use Rattle.live_view.specs.Live.{LiveState, LiveTold, Told, arrives, awaited, drive, drives, fits_wire, goes_on, has_arrived, hears, holds_by, if_room, joined_as, line_at, lines_from, live_run, live_step, more_lines, one_more, or_joined, sends_all, still, then_prints, then_sends, then_told, told_in, waits, with_more}
 use Rattle.live_view.specs.Script.{ComeBeforeFrames, IsBeforeFrames, IsWaiting, LiveIsScript, inputs_of, joined_lines, printed_in, read_in, sent_in}
 
 -- ---- the lines that are left, along a phase
@@ -162,7 +164,7 @@ live_from count joined phase inputs = then_told (drives true phase) (live_run (s
 
 -- what steps sent and printed, up to a phase
 abbrev told_by : List Step → Phase → Told
-told_by steps last = record { frames = sent_in steps; text = printed_in steps; phase = last }
+told_by steps last = record { frames = sent_in steps; text = printed_in steps; fit = true; phase = last }
 
 waiting_from : (count : ℕ) (joined : Option ℕ) (last : Phase) → IsWaiting last → live_from count joined last [] ≡ told_by [] last
 waiting_from count joined (Connecting v how) is = refl
@@ -182,13 +184,18 @@ module _ (count : ℕ) (joined : Option ℕ) (inputs : List LiveInput) where
   after_print : (text : List ℕ) (first : Told) → then_live (then_prints text first) ≡ then_prints text (then_live first)
   after_print text first =
       let rest = live_run (state_at count joined first.phase) inputs in
-      ap (λ (t : List ℕ). record { frames = first.frames ++ rest.frames; text = t; phase = rest.phase }) (append_assoc text first.text rest.text)
+      ap (λ (t : List ℕ). record { frames = first.frames ++ rest.frames; text = t; fit = first.fit && rest.fit; phase = rest.phase }) (append_assoc text first.text rest.text)
 
   from_print : (text : List ℕ) (here first more : Told) → here ≡ then_prints text first → then_live first ≡ more → then_live here ≡ then_prints text more
   from_print text here first more is rest = ap then_live is ∙ after_print text first ∙ ap (then_prints text) rest
 
+  after_sends : (frame : ClientFrame) (first : Told) → then_live (then_sends frame first) ≡ then_sends frame (then_live first)
+  after_sends frame first =
+      let rest = live_run (state_at count joined first.phase) inputs in
+      ap (λ (b : Bool). record { frames = client_spelling frame ∷ first.frames ++ rest.frames; text = first.text ++ rest.text; fit = b; phase = rest.phase }) (and_assoc (fits_wire frame) first.fit rest.fit)
+
   from_send : (frame : ClientFrame) (here first more : Told) → here ≡ then_sends frame first → then_live first ≡ more → then_live here ≡ then_sends frame more
-  from_send frame here first more is rest = ap then_live is ∙ ap (then_sends frame) rest
+  from_send frame here first more is rest = ap then_live is ∙ after_sends frame first ∙ ap (then_sends frame) rest
 
 hears_are : (v : Viewer) (aim : Aim) (what : Heard) (next : Phase) → Hearing v aim what next → next ≡ hears v aim what
 hears_are v aim (heard.Frame bytes) next is = is
@@ -206,6 +213,7 @@ walk_told count joined (Sending v frame frames task) last (Sends bytes ∷ steps
     from_send count joined (inputs_of steps) frame (drives true (Sending v frame frames task)) (drives true (send_all (record v { receives = 0 }) frames task)) (told_by steps last)
     (drive_sends (λ w. goes_on true w) v frame frames task)
     (subst (λ (p : Phase). live_from count joined p (inputs_of steps) ≡ told_by steps last) is (walk_told count joined next last steps walks waiting))
+    ∙ ap (λ (b : Bool). record { frames = client_spelling frame ∷ sent_in steps; text = printed_in steps; fit = b && true; phase = last }) (frame_fits frame fits)
     ∙ ap (λ (b : List ℕ). told_by (Sends b ∷ steps) last) (sym spells)
 walk_told count joined (Receiving v aim) last (Hears what ∷ steps) (next, moves, walks) waiting =
     let now = or_joined (joined_as aim what) joined in
@@ -287,8 +295,8 @@ early phase told = waits phase
 
 -- So it is too behind the end of the lines, where more of them are left.
 record Early (events : ℕ) (more : List PlainLine) (phase : Phase) (told : LiveInput) : Type 0 where
-  step : (count : ℕ) → live_step (before count phase) told ≡ record { frames = (early phase told).frames; text = (early phase told).text; here = false; state = before count (early phase told).phase }
-  closed : (count : ℕ) → live_step (state_at count None (more_lines phase more)) told ≡ record { frames = (early phase told).frames; text = (early phase told).text; here = false; state = state_at count None (more_lines (early phase told).phase more) }
+  step : (count : ℕ) → live_step (before count phase) told ≡ record { frames = (early phase told).frames; text = (early phase told).text; fit = (early phase told).fit; here = false; state = before count (early phase told).phase }
+  closed : (count : ℕ) → live_step (state_at count None (more_lines phase more)) told ≡ record { frames = (early phase told).frames; text = (early phase told).text; fit = (early phase told).fit; here = false; state = state_at count None (more_lines (early phase told).phase more) }
   room : HasRoomFor events (early phase told).phase
 
 -- a quiet link: it may have been quiet too often, and the view may say that it is alive
@@ -302,14 +310,14 @@ quiet_told closed phase count next =
 
 quiet_steps : (often due : Bool) (v : Viewer) (how : How) (count : ℕ) (phase : Phase)
     → quiet_told false phase count (quiet_by often due v how)
-    ≡ record { frames = (drives false (quiet_by often due v how)).frames; text = (drives false (quiet_by often due v how)).text; here = false; state = before count (drives false (quiet_by often due v how)).phase }
+    ≡ record { frames = (drives false (quiet_by often due v how)).frames; text = (drives false (quiet_by often due v how)).text; fit = (drives false (quiet_by often due v how)).fit; here = false; state = before count (drives false (quiet_by often due v how)).phase }
 quiet_steps true due v how count phase = refl
 quiet_steps false true v how count phase = refl
 quiet_steps false false v how count phase = refl
 
 quiet_closed : (often due : Bool) (more : List PlainLine) (v : Viewer) (how : How) (count : ℕ) (phase : Phase)
     → quiet_told true phase count (quiet_by often due (with_more v more) how)
-    ≡ record { frames = (drives false (quiet_by often due v how)).frames; text = (drives false (quiet_by often due v how)).text; here = false; state = state_at count None (more_lines (drives false (quiet_by often due v how)).phase more) }
+    ≡ record { frames = (drives false (quiet_by often due v how)).frames; text = (drives false (quiet_by often due v how)).text; fit = (drives false (quiet_by often due v how)).fit; here = false; state = state_at count None (more_lines (drives false (quiet_by often due v how)).phase more) }
 quiet_closed true due more v how count phase = refl
 quiet_closed false true more v how count phase = refl
 quiet_closed false false more v how count phase = refl
@@ -362,7 +370,7 @@ abbrev line_told : ℕ → Told → LiveTold
 line_told count t = arrives t (before count t.phase)
 
 abbrev lines_more : ℕ → Phase → List PlainLine → LiveTold
-lines_more count phase more = record { frames = []; text = []; here = false; state = before count (more_lines phase more) }
+lines_more count phase more = record { frames = []; text = []; fit = true; here = false; state = before count (more_lines phase more) }
 
 line_steps : (count : ℕ) (text : List ℕ) (phase : Phase) (first more script : List PlainLine) → lines_in (read_line text) ≡ Some first → first ++ more ≡ script → HasRoomFor (publish_count script) phase
     → live_step (before count phase) (input.Line text) ≡ lines_more (one_more count) phase first
@@ -423,7 +431,7 @@ none_more (PrintingLast piece) = refl
 none_more (Returning v how) = refl
 
 -- the end of the lines cuts nothing short
-closed_steps : (count events : ℕ) (phase : Phase) → HasRoomFor events phase → live_step (before count phase) input.Closed ≡ record { frames = []; text = []; here = false; state = state_at count None phase }
+closed_steps : (count events : ℕ) (phase : Phase) → HasRoomFor events phase → live_step (before count phase) input.Closed ≡ record { frames = []; text = []; fit = true; here = false; state = state_at count None phase }
 closed_steps count events (Connecting v how) room = refl
 closed_steps count events (Receiving v (ToJoin how)) room = refl
 closed_steps count events (Over end) room = refl

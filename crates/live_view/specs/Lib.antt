@@ -4,3 +4,4 @@ pub mod Live
 pub mod Script
 pub mod Doing
 pub mod View
+pub mod Looking

@@ -1,11 +1,13 @@
 -- What a live view does at each thing that it is told: the phases of a script, walked up to where the view waits.
-use Rattle.std.specs.Prelude.{ℕ, ◌+◌, ◌-◌, ◌^◌, ◌==◌, min, nat_le, nat_lt, Bool, true, false, ◌&&◌, List, [], ◌∷◌, ◌++◌, Option, Some, None, codes}
+use Rattle.std.specs.Prelude.{ℕ, ◌+◌, ◌-◌, ◌^◌, ◌==◌, min, nat_le, nat_lt, Bool, true, false, ◌&&◌, List, [], ◌∷◌, ◌++◌, length, Option, Some, None, codes}
 use Rattle.byte_fields.specs.Fields.{whole}
 use Rattle.tea_base.specs.Limits.{time_limit}
 use Rattle.tea_io.specs.Links.{most_quiets}
 use Rattle.tea_io.specs.declared.link.Heard.{Heard}
 use Rattle.tea_io.specs.declared.link.Heard.TheVariants as heard
 use Rattle.wire_frames.specs.Reading.{server_at}
+use Rattle.wire_frames.specs.declared.start.Want.{Want}
+use Rattle.wire_frames.specs.declared.start.Want.TheVariants as wants
 use Rattle.wire_frames.specs.Spelling.{client_spelling}
 use Rattle.wire_frames.specs.declared.frame.ClientFrame.{ClientFrame}
 use Rattle.wire_frames.specs.declared.frame.ClientFrame.TheVariants as client
@@ -24,22 +26,42 @@ use Rattle.live_view.specs.declared.outcome.LiveWant.{LiveWant}
 use Rattle.live_view.specs.declared.outcome.LiveWant.TheVariants as want
 use Rattle.live_view.specs.Lines.{LineRead, NoLine, Lines, Holds, read_line}
 
+-- ---- frames that fit the wire
+
+-- bytes that their length of 32 bits counts
+abbrev pub is_short : List ℕ → Bool
+is_short bytes = nat_lt (length bytes) (2 ^ 32)
+
+abbrev pub fits_want : Want → Bool
+fits_want wants.Fresh = true
+fits_want wants.Whole = true
+fits_want (wants.After time) = nat_lt time time_limit
+
+-- each number and each length of a frame is within its field
+abbrev pub fits_wire : ClientFrame → Bool
+fits_wire (client.Join session view want) = fits_want want && ((length session.0 == 32) && nat_lt view (2 ^ 32))
+fits_wire (client.Send number payload) = is_short payload && nat_lt number (2 ^ 32)
+fits_wire (client.Snap time bytes) = nat_lt time time_limit && is_short bytes
+fits_wire client.Leave = true
+fits_wire client.Alive = true
+
 -- ---- what is done
 
--- the frames that are sent and the text that is printed, and the phase in which the view waits then
+-- the frames that are sent and the text that is printed, whether each of the frames fits the wire, and the phase in which the view waits then
 pub record Told : Type 0 where
   pub frames : List (List ℕ)
   pub text : List ℕ
+  pub fit : Bool
   pub phase : Phase
 
 abbrev pub waits : Phase → Told
-waits p = record { frames = []; text = []; phase = p }
+waits p = record { frames = []; text = []; fit = true; phase = p }
 
 abbrev pub then_sends : ClientFrame → Told → Told
-then_sends frame t = record { frames = client_spelling frame ∷ t.frames; text = t.text; phase = t.phase }
+then_sends frame t = record { frames = client_spelling frame ∷ t.frames; text = t.text; fit = fits_wire frame && t.fit; phase = t.phase }
 
 abbrev pub then_prints : List ℕ → Told → Told
-then_prints text t = record { frames = t.frames; text = text ++ t.text; phase = t.phase }
+then_prints text t = record { frames = t.frames; text = text ++ t.text; fit = t.fit; phase = t.phase }
 
 abbrev pub sends_all : List ClientFrame → Told → Told
 sends_all [] t = t
@@ -177,7 +199,7 @@ has_room votes v more = nat_le (published_count v.replica + votes + publish_coun
 
 -- the line of this number is none
 abbrev pub bad_line : ℕ → Phase → Told
-bad_line number phase = record { frames = []; text = numbers_line (codes "bad-line") (number ∷ []); phase = phase }
+bad_line number phase = record { frames = []; text = numbers_line (codes "bad-line") (number ∷ []); fit = true; phase = phase }
 
 abbrev pub if_room : Bool → ℕ → Phase → List PlainLine → Told
 if_room true number phase more = wakes false (more_lines phase more)
@@ -296,17 +318,18 @@ awaited arrived phase joined = None
 
 -- ---- a step
 
--- the frames that are sent, the text that is printed, and whether `here` is printed behind it
+-- the frames that are sent, the text that is printed, whether each of the frames fits the wire, and whether `here` is printed after the text
 pub record LiveTold : Type 0 where
   pub frames : List (List ℕ)
   pub text : List ℕ
+  pub fit : Bool
   pub here : Bool
   pub state : LiveState
 
 abbrev pub arrives : Told → LiveState → LiveTold
 arrives t s =
     let arrived = has_arrived s.phase s.joined in
-    record { frames = t.frames; text = t.text; here = arrived; state = record s { joined = awaited arrived s.phase s.joined } }
+    record { frames = t.frames; text = t.text; fit = t.fit; here = arrived; state = record s { joined = awaited arrived s.phase s.joined } }
 
 abbrev pub live_step : LiveState → LiveInput → LiveTold
 live_step s told =
@@ -322,10 +345,10 @@ wanted phase = want.Input
 -- ---- all that it is told
 
 abbrev pub then_told : Told → Told → Told
-then_told first more = record { frames = first.frames ++ more.frames; text = first.text ++ more.text; phase = more.phase }
+then_told first more = record { frames = first.frames ++ more.frames; text = first.text ++ more.text; fit = first.fit && more.fit; phase = more.phase }
 
 abbrev pub told_in : LiveTold → Told
-told_in t = record { frames = t.frames; text = t.text; phase = t.state.phase }
+told_in t = record { frames = t.frames; text = t.text; fit = t.fit; phase = t.state.phase }
 
 abbrev pub live_run : LiveState → List LiveInput → Told
 live_run s [] = waits s.phase

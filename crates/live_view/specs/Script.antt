@@ -1,5 +1,5 @@
 -- A live view and the script of its lines.
-use Rattle.std.specs.Prelude.{◌≡◌, ◌≤◌, ◌⊎◌, ℕ, false, List, [], ◌∷◌, ◌++◌, map, Option, Some, None}
+use Rattle.std.specs.Prelude.{true, ◌≡◌, ◌≤◌, ◌⊎◌, ℕ, false, List, [], ◌∷◌, ◌++◌, map, Option, Some, None}
 use Rattle.tea_io.specs.declared.link.Heard.TheVariants as heard
 use Rattle.model_solved.specs.Founding.{Founding}
 use Rattle.run_steps.specs.Steps.{Step, Prints, Connects, Hears, Sends}
@@ -73,4 +73,4 @@ LiveIsScript =
     → read_in texts ≡ Some script → publish_count script ≤ most_publishes
     → Walks (first_phase founding id view address script) steps last → IsWaiting last
     → ComeBeforeFrames (map input.Line texts ++ input.Closed ∷ []) (inputs_of steps) inputs
-    → live_run (first_state founding id view address) inputs ≡ record { frames = sent_in steps; text = printed_in steps; phase = last }
+    → live_run (first_state founding id view address) inputs ≡ record { frames = sent_in steps; text = printed_in steps; fit = true; phase = last }

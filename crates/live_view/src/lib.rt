@@ -6,6 +6,8 @@
 //! Its lines are those of a script. It does them as they come, one after the other; while none is at work it hears its link, and tells
 //! what its models publish with each frame. [`live_is_script`] says that it does what the script of its lines does.
 //!
+//! [`LiveView::look`] tells its world in full, whatever it waits for.
+//!
 //! One line more is `hold N`, at which it wants another link in place of one that is gone or was not made, up to N times.
 #![tactic(auto)]
 
@@ -16,6 +18,7 @@ mod input;
 mod joining;
 mod laws;
 mod lines;
+mod looking;
 mod machine;
 mod outcome;
 mod queue;

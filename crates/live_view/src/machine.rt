@@ -88,14 +88,14 @@ fn votes_for(goal: Goal) -> u32
 /// is there again: then it joins for a world made anew, sends what is not acknowledged once more, and prints `settled`.
 #[derive(Drop)]
 pub struct LiveView {
-    watcher: Watcher,
+    pub(crate) watcher: Watcher,
     queue: Queue,
-    place: Place,
+    pub(crate) place: Place,
     closed: bool,
     count: u64,
     holds: u64,
     joined: Option<u32>,
-    lost: bool,
+    pub(crate) lost: bool,
 }
 
 impl LiveView {
@@ -622,7 +622,7 @@ impl LiveView {
     }
 
     /// Memory was wanted: the view wants a link, on which it joins for a world made anew, and no line is left.
-    fn lose(&mut self)
+    pub(crate) fn lose(&mut self)
         requires knows { KnowsItself self.old.watcher }
         ensures live { IsLive self.new }
         ensures kept { self.new ≡ record self.old { queue = self.new.queue; place = Place.Unlinked How.Fresh; joined = None; lost = true } }

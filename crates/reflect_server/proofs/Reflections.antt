@@ -29,9 +29,9 @@ use Rattle.connection.proofs.Talking.{with_more_none, with_more_twice}
 use Rattle.reflect_server.specs.Opening.{AreHere, AreLeavesOf, BeginsWithLeaves, HasOpened, gives_later}
 use Rattle.reflect_server.specs.Connections.{ServedConnection, HasTalk, IsHistoryOf, AreServed, AreToldWithin, accepted_links, callers_of, returned_links}
 use Rattle.reflect_server.specs.Passes.{Gathers}
-use Rattle.reflect_server.specs.Rounds.{Accepts, GoesRound, TakesAll, AsksAccepts, accepts, accepts_more, CountsStop, CountsLinks, links_of, ended_of, served_back, with_links}
+use Rattle.reflect_server.specs.Rounds.{Accepts, GoesRound, TakesAll, AsksAccepts, accepts, accepts_more, CountsStop, links_of, ended_of, served_back, with_links}
 use Rattle.reflect_server.specs.Keeping.{KeeperTells, HasNotOpened, HasOnlyOpened, HasOpenedAtMost, IsUnopened, keeper_tells, no_keeper}
-use Rattle.reflect_server.specs.Reflects.{ReturnsLinks, HasReflected, HasServed, HasWanted, AsksUntilWant, Plays, Reflects, ReflectsKept, CountsConnections, CountsFailure, EndUnkeptIf, accepts_for, answer_for, unheard, unopened_fault, with_kept_fault}
+use Rattle.reflect_server.specs.Reflects.{AsksFor, ReturnsLinks, HasWanted, Plays, Reflects, ReflectsKept, EndUnkeptIf, unheard, unopened_fault, with_kept_fault}
 use Rattle.reflect_server.specs.declared.reflection.Reflected.{Reflected}
 use Rattle.reflect_server.specs.declared.reflection.ServeFault.{ServeFault}
 use Rattle.reflect_server.specs.declared.reflection.KeptFault.{KeptFault}
@@ -211,11 +211,6 @@ module _ {N L : Type 0} (tells : NetTells N L) (links : LinksTell L) where
 
 -- ---- what is answered
 
-stop_later : (before now : ℕ) (stopped : Option NetFault) → CountsStop before now stopped → before ≤ now
-stop_later before now None counts = counts
-stop_later before now (Some Failed) counts = counts.0
-stop_later before now (Some WantOfMemory) counts = counts
-
 module _ (gives : ℕ → Type 0) (id : SessionId) (kept : KeeperTells) {N L K : Type 0} (tells : NetTells N L) (links : LinksTell L) (count : ℕ) (before mid : Round N L K) (now : N) where
   -- what is left when all links were served
   pub record Ends (session : PlainSession) : Type 0 where
@@ -263,108 +258,50 @@ module _ (gives : ℕ → Type 0) (id : SessionId) (kept : KeeperTells) {N L K :
   unkept_when : (session : PlainSession) (ends : Ends session) → EndUnkeptIf kept.failed ends.round.connections
   unkept_when session ends = all_unkept gives id before.lead.opening links mid.lead.seen kept.failed ends.round.connections ends.fails ends.round.passes.talks
 
-  reflected_as : (reflected : Reflected) (ends : Ends reflected.session.plain) → tells.asked now ≡ with_more (tells.asked before.net) (accepts_for (accepted_links ends.round.connections) reflected.net_failed)
-      → CountsFailure (tells.faults before.net) (tells.faults now) reflected.net_failed → CountsConnections (length ends.round.connections) count reflected.net_failed
-      → reflected.ends ≡ ended_of mid.served.items → HasReflected gives id before.lead.opening kept tells links [] count before.net now reflected
-  reflected_as reflected ends asked faults number ended = record {
+  -- what stopped the net is told as it is
+  asks_for : (before now : Option (List NetCall)) (links_now : List L) (stopped : Option NetFault) → AsksAccepts before now links_now stopped → AsksFor before now [] links_now stopped
+  asks_for before now links_now None asks = asks
+  asks_for before now links_now (Some Failed) asks = asks
+  asks_for before now links_now (Some WantOfMemory) asks = asks
+
+  asks_now : (links_now : List L) → tells.asked now ≡ tells.asked mid.net → AsksAccepts (tells.asked before.net) (tells.asked mid.net) links_now mid.stopped
+      → AsksFor (tells.asked before.net) (tells.asked now) [] links_now mid.stopped
+  asks_now links_now back asks =
+      asks_for (tells.asked before.net) (tells.asked now) links_now mid.stopped (subst (λ (o : Option (List NetCall)). AsksAccepts (tells.asked before.net) o links_now mid.stopped) (sym back) asks)
+
+  faults_now : tells.faults now ≡ tells.faults mid.net → CountsStop (tells.faults before.net) (tells.faults mid.net) mid.stopped → CountsStop (tells.faults before.net) (tells.faults now) mid.stopped
+  faults_now back counts = subst (λ (n : ℕ). CountsStop (tells.faults before.net) n mid.stopped) (sym back) counts
+
+  pub reflects_when : (session : SessionState) (ended : List Ended) → ended ≡ ended_of mid.served.items → Ends session.plain
+      → ReflectsKept gives id before.lead.opening kept tells links [] count before.net now (Ok (record { session = session; ends = ended; stopped = mid.stopped }))
+  reflects_when session ended all ends = record {
     connections = ends.round.connections;
     history = mid.lead.seen;
-    net = net_of reflected.session.plain ends;
-    asked = asked;
-    faults = faults;
-    number = number;
-    ends = ended ∙ ends_of_round mid.served.items ends.round.connections ends.round.served;
+    net = net_of session.plain ends;
+    asked = asks_now (accepted_links ends.round.connections) ends.returns.asked ends.round.net.asked;
+    faults = faults_now ends.returns.faults ends.round.net.faults;
+    number = ends.round.number;
+    ends = all ∙ ends_of_round mid.served.items ends.round.connections ends.round.served;
     opener = caller before.lead;
-    talks = history_when reflected.session.plain ends;
+    talks = history_when session.plain ends;
     session = ends.closed.plays;
-    served = subst (λ (s : PlainSession). AreServed s.log ends.round.connections) (sym ends.closed.plays.play) (served_when reflected.session.plain ends);
-    ticks = subst (λ (s : PlainSession). AreToldWithin s.horizon ends.round.connections) (sym ends.closed.plays.play) (told_when reflected.session.plain ends);
+    served = subst (λ (s : PlainSession). AreServed s.log ends.round.connections) (sym ends.closed.plays.play) (served_when session.plain ends);
+    ticks = subst (λ (s : PlainSession). AreToldWithin s.horizon ends.round.connections) (sym ends.closed.plays.play) (told_when session.plain ends);
     stays =
         subst (λ (s : PlainSession). StaysByMiss before.lead.opening (caller before.lead) (callers_of ends.round.connections) mid.lead.seen s.log) (sym ends.closed.plays.play)
-        (stays_when reflected.session.plain ends);
+        (stays_when session.plain ends);
     keeps = ends.keeps;
-    unkept = unkept_when reflected.session.plain ends;
+    unkept = unkept_when session.plain ends;
   }
-
-  asks_now : (stopped : Option NetFault) (links_now : List L) (back : tells.asked now ≡ tells.asked mid.net) → AsksAccepts (tells.asked before.net) (tells.asked mid.net) links_now stopped
-      → AsksAccepts (tells.asked before.net) (tells.asked now) links_now stopped
-  asks_now stopped links_now back asks = subst (λ (o : Option (List NetCall)). AsksAccepts (tells.asked before.net) o links_now stopped) (sym back) asks
-
-  faults_now : (stopped : Option NetFault) → tells.faults now ≡ tells.faults mid.net → CountsStop (tells.faults before.net) (tells.faults mid.net) stopped
-      → CountsStop (tells.faults before.net) (tells.faults now) stopped
-  faults_now stopped back counts = subst (λ (n : ℕ). CountsStop (tells.faults before.net) n stopped) (sym back) counts
-
-  -- all links were served
-  reflected_all : (reflected : Reflected) → mid.stopped ≡ None → reflected.net_failed ≡ false → reflected.ends ≡ ended_of mid.served.items → Ends reflected.session.plain
-      → HasReflected gives id before.lead.opening kept tells links [] count before.net now reflected
-  reflected_all reflected going fine ended ends =
-      let asks = subst (AsksAccepts _ _ (accepted_links ends.round.connections)) going (asks_now mid.stopped (accepted_links ends.round.connections) ends.returns.asked ends.round.net.asked) in
-      let counts = subst (CountsStop _ _) going (faults_now mid.stopped ends.returns.faults ends.round.net.faults) in
-      let number = subst (CountsLinks (length ends.round.connections) count) going ends.round.number in
-      reflected_as reflected ends
-      (subst (λ (b : Bool). tells.asked now ≡ with_more (tells.asked before.net) (accepts_for (accepted_links ends.round.connections) b)) (sym fine) asks)
-      (subst (CountsFailure (tells.faults before.net) (tells.faults now)) (sym fine) counts)
-      (subst (CountsConnections (length ends.round.connections) count) (sym fine) number) ended
-
-  -- the net failed
-  reflected_some : (reflected : Reflected) → mid.stopped ≡ Some Failed → reflected.net_failed ≡ true → reflected.ends ≡ ended_of mid.served.items → Ends reflected.session.plain
-      → HasReflected gives id before.lead.opening kept tells links [] count before.net now reflected
-  reflected_some reflected stopped failed ended ends =
-      let asks = subst (AsksAccepts _ _ (accepted_links ends.round.connections)) stopped (asks_now mid.stopped (accepted_links ends.round.connections) ends.returns.asked ends.round.net.asked) in
-      let counts = subst (CountsStop _ _) stopped (faults_now mid.stopped ends.returns.faults ends.round.net.faults) in
-      let number = subst (CountsLinks (length ends.round.connections) count) stopped ends.round.number in
-      reflected_as reflected ends
-      (subst (λ (b : Bool). tells.asked now ≡ with_more (tells.asked before.net) (accepts_for (accepted_links ends.round.connections) b)) (sym failed) asks)
-      (subst (CountsFailure (tells.faults before.net) (tells.faults now)) (sym failed) counts.1)
-      (subst (CountsConnections (length ends.round.connections) count) (sym failed) number) ended
-
-  wanted_asks : (before now : Option (List NetCall)) (links : List L) → AsksAccepts before now links (Some WantOfMemory) → AsksUntilWant before now [] links
-  wanted_asks before now links (inl all) = inr (inl all)
-  wanted_asks before now links (inr more) = inr (inr more)
-
-  -- memory was wanted
-  wanted : (session : PlainSession) → mid.stopped ≡ Some WantOfMemory → Ends session → HasWanted gives id before.lead.opening kept tells links [] count before.net now
-  wanted session stopped ends = record {
-    connections = ends.round.connections;
-    net = net_of session ends;
-    asked =
-        wanted_asks (tells.asked before.net) (tells.asked now) (accepted_links ends.round.connections)
-        (subst (AsksAccepts _ _ (accepted_links ends.round.connections)) stopped (asks_now mid.stopped (accepted_links ends.round.connections) ends.returns.asked ends.round.net.asked));
-    number = subst (CountsLinks (length ends.round.connections) count) stopped ends.round.number;
-    served = inr (record {
-      history = mid.lead.seen;
-      opener = caller before.lead;
-      talks = history_when session ends;
-      sound = ends.closed.plays.sound;
-      served = served_when session ends;
-      ticks = told_when session ends;
-      keeps = ends.keeps;
-      unkept = unkept_when session ends;
-    });
-    faults = stop_later (tells.faults before.net) (tells.faults now) mid.stopped (faults_now mid.stopped ends.returns.faults ends.round.net.faults);
-  }
-
-  -- by what stopped the net
-  pub reflects_so : (session : SessionState) (ended : List Ended) (stopped : Option NetFault) → mid.stopped ≡ stopped → ended ≡ ended_of mid.served.items → Ends session.plain
-      → ReflectsKept gives id before.lead.opening kept tells links [] count before.net now (answer_for session ended stopped)
-  reflects_so session ended None is all ends = reflected_all (record { session = session; ends = ended; net_failed = false }) is refl all ends
-  reflects_so session ended (Some Failed) is all ends = reflected_some (record { session = session; ends = ended; net_failed = true }) is refl all ends
-  reflects_so session ended (Some WantOfMemory) is all ends = wanted session.plain is ends
-
-  pub reflects_when : (session : SessionState) (ended : List Ended) (result : Result Reflected KeptFault) → result ≡ answer_for session ended mid.stopped
-      → ended ≡ ended_of mid.served.items → Ends session.plain → ReflectsKept gives id before.lead.opening kept tells links [] count before.net now result
-  reflects_when session ended result is all ends =
-      subst (ReflectsKept gives id before.lead.opening kept tells links [] count before.net now) (sym is) (reflects_so session ended mid.stopped refl all ends)
 
 -- ---- before a link is accepted
 
 -- what a net that was to listen was asked
-pub listen_asks : {L T : Type 0} (address : List ℕ) (before now : Option (List NetCall)) (result : Result T NetFault) → AsksNet before now (Listen address) result
-    → AsksUntilWant {L = L} before now (Listen address ∷ []) []
-listen_asks address before now (Ok value) more = inr (inl more)
-listen_asks address before now (Err Failed) more = inr (inl more)
-listen_asks address before now (Err WantOfMemory) (inl same) = inl (refl, same)
-listen_asks address before now (Err WantOfMemory) (inr more) = inr (inl more)
+pub listen_asks : {T : Type 0} (address : List ℕ) (before now : Option (List NetCall)) (result : Result T NetFault) → AsksNet before now (Listen address) result
+    → (now ≡ before) ⊎ (now ≡ with_more before (Listen address ∷ []))
+listen_asks address before now (Ok value) more = inr more
+listen_asks address before now (Err Failed) more = inr more
+listen_asks address before now (Err WantOfMemory) asks = asks
 
 module _ (gives : ℕ → Type 0) (id : SessionId) (opening : PlainSession) (kept : KeeperTells) {N L : Type 0} (tells : NetTells N L) (links : LinksTell L) where
   -- the net listens, or fails to
@@ -377,15 +314,14 @@ module _ (gives : ℕ → Type 0) (id : SessionId) (opening : PlainSession) (kep
     pub cause : NetCause (tells.faults before) (tells.faults now) result
 
   -- memory was wanted before, or while the net was to listen
-  pub wanted_before : (calls : List NetCall) (count : ℕ) (before now : N) → 1 ≤ count → HasOpenedAtMost gives opening kept → AsksUntilWant {L = L} (tells.asked before) (tells.asked now) calls [] → tells.coming now ≡ tells.coming before → tells.over now ≡ tells.over before → tells.lent now ≡ tells.lent before
-      → tells.link_counts now ≡ tells.link_counts before → tells.faults before ≤ tells.faults now → HasWanted gives id opening kept tells links calls count before now
-  wanted_before calls count before now some opened asked coming over lent counts faults = record {
-    connections = [];
+  pub wanted_before : (calls : List NetCall) (before now : N) → HasOpenedAtMost gives opening kept → (tells.asked now ≡ tells.asked before) ⊎ (tells.asked now ≡ with_more (tells.asked before) calls)
+      → tells.coming now ≡ tells.coming before → tells.over now ≡ tells.over before → tells.lent now ≡ tells.lent before
+      → tells.link_counts now ≡ tells.link_counts before → tells.faults before ≤ tells.faults now → HasWanted gives opening kept tells links calls before now
+  wanted_before calls before now opened asked coming over lent counts faults = record {
     net = nothing_back tells links before now coming over lent counts;
     asked = asked;
-    number = some;
-    served = inl (refl, opened);
     faults = faults;
+    opened = opened;
   }
 
   -- the net listens, and then these calls are made
@@ -394,12 +330,12 @@ module _ (gives : ℕ → Type 0) (id : SessionId) (opening : PlainSession) (kep
   listen_first address before mid now calls one all =
       all ∙ (ap (λ (o : Option (List NetCall)). with_more o calls) one ∙ with_more_twice before (Listen address ∷ []) calls)
 
-  wanted_behind : (address : List ℕ) (before mid now : Option (List NetCall)) (accepted : List L) → mid ≡ with_more before (Listen address ∷ []) → AsksUntilWant mid now [] accepted
-      → AsksUntilWant before now (Listen address ∷ []) accepted
-  wanted_behind address before mid now accepted one (inl none) =
-      inr (inl (subst (λ (l : List L). now ≡ with_more before (Listen address ∷ accepts l)) (sym none.0) (none.1 ∙ one)))
-  wanted_behind address before mid now accepted one (inr (inl all)) = inr (inl (listen_first address before mid now (accepts accepted) one all))
-  wanted_behind address before mid now accepted one (inr (inr all)) = inr (inr (listen_first address before mid now (accepts_more accepted) one all))
+  for_behind : (address : List ℕ) (before mid now : Option (List NetCall)) (accepted : List L) (stopped : Option NetFault) → mid ≡ with_more before (Listen address ∷ []) → AsksFor mid now [] accepted stopped
+      → AsksFor before now (Listen address ∷ []) accepted stopped
+  for_behind address before mid now accepted None one all = listen_first address before mid now (accepts accepted) one all
+  for_behind address before mid now accepted (Some Failed) one all = listen_first address before mid now (accepts_more accepted) one all
+  for_behind address before mid now accepted (Some WantOfMemory) one (inl all) = inl (listen_first address before mid now (accepts accepted) one all)
+  for_behind address before mid now accepted (Some WantOfMemory) one (inr all) = inr (listen_first address before mid now (accepts_more accepted) one all)
 
   listened_back : {T : Type 0} (address : List ℕ) (value : T) (before mid now : N) (connections : List (ServedConnection L)) → Listens address (Ok value) before mid
       → ReturnsLinks tells links mid now connections → ReturnsLinks tells links before now connections
@@ -410,19 +346,20 @@ module _ (gives : ℕ → Type 0) (id : SessionId) (opening : PlainSession) (kep
     counts = back.counts ∙ ap (λ (c : Counts). with_links links.counts c (returned_links connections)) listens.counts;
   }
 
-  failure_later : (before mid now : ℕ) (failed : Bool) → before ≤ mid → CountsFailure mid now failed → CountsFailure before now failed
-  failure_later before mid now true later counts = omega (arith, counts)
-  failure_later before mid now false later counts = omega (arith, counts)
+  stop_behind : (before mid now : ℕ) (stopped : Option NetFault) → before ≤ mid → CountsStop mid now stopped → CountsStop before now stopped
+  stop_behind before mid now None later counts = omega (arith, counts)
+  stop_behind before mid now (Some Failed) later counts = (let first = counts.0 in omega (arith, first), let rose = counts.1 in omega (arith, rose))
+  stop_behind before mid now (Some WantOfMemory) later counts = omega (arith, counts)
 
   -- what came of it once the net listened
-  pub reflects_behind : {T : Type 0} (address : List ℕ) (value : T) (count : ℕ) (before mid now : N) (result : Result Reflected KeptFault) → result ≢ Err kept_fault.Unkept → Listens address (Ok value) before mid
-      → ReflectsKept gives id opening kept tells links [] count mid now result → ReflectsKept gives id opening kept tells links (Listen address ∷ []) count before now result
-  reflects_behind address value count before mid now (Ok reflected) other listens told = record {
+  pub reflects_behind : {T : Type 0} (address : List ℕ) (value : T) (count : ℕ) (before mid now : N) (reflected : Reflected) → Listens address (Ok value) before mid
+      → ReflectsKept gives id opening kept tells links [] count mid now (Ok reflected) → ReflectsKept gives id opening kept tells links (Listen address ∷ []) count before now (Ok reflected)
+  reflects_behind address value count before mid now reflected listens told = record {
     connections = told.connections;
     history = told.history;
     net = listened_back address value before mid now told.connections listens told.net;
-    asked = listen_first address (tells.asked before) (tells.asked mid) (tells.asked now) (accepts_for (accepted_links told.connections) reflected.net_failed) listens.asked told.asked;
-    faults = failure_later (tells.faults before) (tells.faults mid) (tells.faults now) reflected.net_failed listens.cause.later told.faults;
+    asked = for_behind address (tells.asked before) (tells.asked mid) (tells.asked now) (accepted_links told.connections) reflected.stopped listens.asked told.asked;
+    faults = stop_behind (tells.faults before) (tells.faults mid) (tells.faults now) reflected.stopped listens.cause.later told.faults;
     number = told.number;
     ends = told.ends;
     opener = told.opener;
@@ -434,56 +371,35 @@ module _ (gives : ℕ → Type 0) (id : SessionId) (opening : PlainSession) (kep
     keeps = told.keeps;
     unkept = told.unkept;
   }
-  reflects_behind address value count before mid now (Err kept_fault.ListenFault) other listens told = record {
-    net = listened_back address value before mid now [] listens told.net;
-    asked = told.asked ∙ (with_more_none (tells.asked mid) ∙ listens.asked);
-    faults = failure_later (tells.faults before) (tells.faults mid) (tells.faults now) true listens.cause.later told.faults;
-    opened = told.opened;
-  }
-  reflects_behind address value count before mid now (Err kept_fault.WantOfMemory) other listens told = record {
-    connections = told.connections;
-    net = listened_back address value before mid now told.connections listens told.net;
-    asked = wanted_behind address (tells.asked before) (tells.asked mid) (tells.asked now) (accepted_links told.connections) listens.asked told.asked;
-    number = told.number;
-    served = told.served;
-    faults = omega (arith, told.faults, listens.cause.later);
-  }
-  reflects_behind address value count before mid now (Err kept_fault.Unkept) other listens told = absurd (other refl)
 
   -- the net did not listen
-  unheard_by : {T : Type 0} (address : List ℕ) (fault : NetFault) (count : ℕ) (before now : N) → 1 ≤ count → HasOnlyOpened gives opening kept → Listens {T = T} address (Err fault) before now
+  unheard_by : {T : Type 0} (address : List ℕ) (fault : NetFault) (count : ℕ) (before now : N) → HasOnlyOpened gives opening kept → Listens {T = T} address (Err fault) before now
       → ReflectsKept gives id opening kept tells links (Listen address ∷ []) count before now (Err (unheard fault))
-  unheard_by {T} address Failed count before now some opened listens = record {
+  unheard_by {T} address Failed count before now opened listens = record {
     net = nothing_back tells links before now listens.coming listens.over listens.lent listens.counts;
     asked = listens.asked;
     faults = listens.cause.failed refl;
     opened = opened;
   }
-  unheard_by {T} address WantOfMemory count before now some opened listens =
-      wanted_before (Listen address ∷ []) count before now some (inr opened) (listen_asks {L = L} {T = T} address (tells.asked before) (tells.asked now) (Err WantOfMemory) listens.asked)
+  unheard_by {T} address WantOfMemory count before now opened listens =
+      wanted_before (Listen address ∷ []) before now (inr opened) (listen_asks {T = T} address (tells.asked before) (tells.asked now) (Err WantOfMemory) listens.asked)
       listens.coming listens.over listens.lent listens.counts listens.cause.later
 
-  pub reflects_unheard : {T : Type 0} (address : List ℕ) (fault : NetFault) (answer : KeptFault) (count : ℕ) (before now : N) → 1 ≤ count → answer ≡ unheard fault → HasOnlyOpened gives opening kept → Listens {T = T} address (Err fault) before now
+  pub reflects_unheard : {T : Type 0} (address : List ℕ) (fault : NetFault) (answer : KeptFault) (count : ℕ) (before now : N) → answer ≡ unheard fault → HasOnlyOpened gives opening kept → Listens {T = T} address (Err fault) before now
       → ReflectsKept gives id opening kept tells links (Listen address ∷ []) count before now (Err answer)
-  reflects_unheard address fault answer count before now some is opened listens =
-      subst (λ (f : KeptFault). ReflectsKept gives id opening kept tells links (Listen address ∷ []) count before now (Err f)) (sym is) (unheard_by address fault count before now some opened listens)
+  reflects_unheard address fault answer count before now is opened listens =
+      subst (λ (f : KeptFault). ReflectsKept gives id opening kept tells links (Listen address ∷ []) count before now (Err f)) (sym is) (unheard_by address fault count before now opened listens)
 
   -- the session was not opened
-  unopened_by : (calls : List NetCall) (why : CallFault) (count : ℕ) (net : N) → 1 ≤ count → IsUnopened gives opening kept why → ReflectsKept gives id opening kept tells links calls count net net (Err (unopened_fault why))
-  unopened_by calls call_fault.WantOfMemory count net some none =
-      wanted_before calls count net net some (inl none) (inl (refl, refl)) refl refl refl refl (omega arith)
-  unopened_by calls call_fault.Unkept count net some stopped = (refl, stopped)
+  unopened_by : (calls : List NetCall) (why : CallFault) (count : ℕ) (net : N) → IsUnopened gives opening kept why → ReflectsKept gives id opening kept tells links calls count net net (Err (unopened_fault why))
+  unopened_by calls call_fault.WantOfMemory count net none =
+      wanted_before calls net net (inl none) (inl refl) refl refl refl refl (omega arith)
+  unopened_by calls call_fault.Unkept count net stopped = (refl, stopped)
 
-  pub reflects_unopened : (calls : List NetCall) (why : CallFault) (answer : KeptFault) (count : ℕ) (net : N) → 1 ≤ count → answer ≡ unopened_fault why → IsUnopened gives opening kept why
+  pub reflects_unopened : (calls : List NetCall) (why : CallFault) (answer : KeptFault) (count : ℕ) (net : N) → answer ≡ unopened_fault why → IsUnopened gives opening kept why
       → ReflectsKept gives id opening kept tells links calls count net net (Err answer)
-  reflects_unopened calls why answer count net some is unopened =
-      subst (λ (f : KeptFault). ReflectsKept gives id opening kept tells links calls count net net (Err f)) (sym is) (unopened_by calls why count net some unopened)
-
--- once the net listens, no opening Leave is left that may not be kept
-pub answer_kept : (session : SessionState) (ended : List Ended) (stopped : Option NetFault) (result : Result Reflected KeptFault) → result ≡ answer_for session ended stopped → result ≢ Err kept_fault.Unkept
-answer_kept session ended None result is other = absurd (cc (is, other))
-answer_kept session ended (Some Failed) result is other = absurd (cc (is, other))
-answer_kept session ended (Some WantOfMemory) result is other = absurd (cc (is, other))
+  reflects_unopened calls why answer count net is unopened =
+      subst (λ (f : KeptFault). ReflectsKept gives id opening kept tells links calls count net net (Err f)) (sym is) (unopened_by calls why count net unopened)
 
 -- the same, said of the session that began, and of its keeper
 pub reflects_of : {K : Type 0} (holds : K → PlainSession → Type 0) (shut : K → Type 0) (faults : K → ℕ) (keeper : K) (gives : ℕ → Type 0) (id : SessionId) (since begun first failed : ℕ) (opening session : PlainSession) {N L : Type 0} (tells : NetTells N L)
@@ -514,20 +430,6 @@ module _ (gives : ℕ → Type 0) (id : SessionId) (opening : PlainSession) (kep
   opened_most (inl none) = inl tt
   opened_most (inr opened) = inr (opened_only opened)
 
-  served_only : (connections : List (ServedConnection L)) → ((connections ≡ []) × HasOpenedAtMost gives opening kept) ⊎ HasServed gives id opening kept links connections
-      → ((connections ≡ []) × HasOpenedAtMost gives opening no_keeper) ⊎ HasServed gives id opening no_keeper links connections
-  served_only connections (inl none) = inl (none.0, opened_most none.1)
-  served_only connections (inr served) = inr (record {
-    history = served.history;
-    opener = served.opener;
-    talks = served.talks;
-    sound = served.sound;
-    served = served.served;
-    ticks = served.ticks;
-    keeps = tt;
-    unkept = never_unkept connections served.unkept;
-  })
-
   reflects_alone : (calls : List NetCall) (count : ℕ) (before now : N) (result : Result Reflected ServeFault) → ReflectsKept gives id opening kept tells links calls count before now (with_kept_fault result)
       → Reflects gives id opening tells links calls count before now result
   reflects_alone calls count before now (Ok reflected) told = record {
@@ -548,14 +450,7 @@ module _ (gives : ℕ → Type 0) (id : SessionId) (opening : PlainSession) (kep
     unkept = never_unkept told.connections told.unkept;
   }
   reflects_alone calls count before now (Err serve_fault.ListenFault) told = record { net = told.net; asked = told.asked; faults = told.faults; opened = opened_only told.opened }
-  reflects_alone calls count before now (Err serve_fault.WantOfMemory) told = record {
-    connections = told.connections;
-    net = told.net;
-    asked = told.asked;
-    number = told.number;
-    served = served_only told.connections told.served;
-    faults = told.faults;
-  }
+  reflects_alone calls count before now (Err serve_fault.WantOfMemory) told = record { net = told.net; asked = told.asked; faults = told.faults; opened = opened_most told.opened }
 
   -- no call of it fails
   pub is_kept : (calls : List NetCall) (count : ℕ) (before now : N) (result : Result Reflected KeptFault) → ReflectsKept gives id opening kept tells links calls count before now result → result ≢ Err kept_fault.Unkept

@@ -1,5 +1,5 @@
 -- What a reflector answers, and what it has done to its net by then.
-use Rattle.std.specs.Prelude.{◌≡◌, ◌⊎◌, ℕ, ◌≤◌, ◌<◌, Bool, true, false, List, [], ◌++◌, length, vec_capacity, Option, Some, None, Result, Ok, Err}
+use Rattle.std.specs.Prelude.{◌≡◌, ◌⊎◌, ℕ, ◌≤◌, List, [], ◌++◌, length, vec_capacity, Option, Some, None, Result, Ok, Err}
 use Rattle.std.specs.List.{AllByRecursion}
 use Rattle.tea_base.specs.declared.entry.SessionId.{SessionId}
 use Rattle.tea_io.specs.Told.{with_more, Rose}
@@ -8,9 +8,7 @@ use Rattle.run_steps.specs.Outside.{LinksTell, NetTells}
 use Rattle.tea_io.specs.declared.net.NetFault.{NetFault}
 use Rattle.tea_io.specs.declared.net.NetFault.TheVariants.{Failed}
 use Rattle.tea_io.specs.declared.net.NetFault.TheVariants as fault
-use Rattle.connection.specs.declared.ending.Ended.{Ended}
 use Rattle.connection.specs.declared.ending.Ended.TheVariants as ended
-use Rattle.reflector_core.specs.SessionState.{SessionState}
 use Rattle.reflector_core.specs.PlainSession.{PlainSession}
 use Rattle.reflector_core.specs.Play.{replies_from, TellsItsEvents}
 use Rattle.session_lock.specs.declared.knowledge.Item.{Item}
@@ -29,7 +27,7 @@ use Rattle.reflect_server.specs.Opening.{HasOpened}
 use Rattle.reflect_server.specs.Keeping.{KeeperTells, HasOnlyOpened, HasNotOpened, HasOpenedAtMost, no_keeper}
 use Rattle.reflect_server.specs.Connections.{ServedConnection, IsHistoryOf, AreServed, AreToldWithin, accepted_links, returned_links, ends_of, callers_of}
 use Rattle.reflect_server.specs.Views.{StaysByMiss}
-use Rattle.reflect_server.specs.Rounds.{TakesAll, accepts, accepts_more, with_links}
+use Rattle.reflect_server.specs.Rounds.{CountsLinks, CountsStop, TakesAll, accepts, accepts_more, with_links}
 use Rattle.reflect_server.specs.declared.reflecting.Prepared.{Prepared}
 use Rattle.reflect_server.specs.declared.reflecting.Rooms.{Rooms}
 
@@ -40,20 +38,11 @@ pub record ReturnsLinks {N L : Type 0} (tells : NetTells N L) (links : LinksTell
   pub lent : tells.lent now ≡ tells.lent before
   pub counts : tells.link_counts now ≡ with_links links.counts (tells.link_counts before) (returned_links connections)
 
--- an accept for each link; where the net failed, one more was made
-abbrev pub accepts_for : {L : Type 0} → List L → Bool → List NetCall
-accepts_for links true = accepts_more links
-accepts_for links false = accepts links
-
--- the net failed only where its count of faults rose
-abbrev pub CountsFailure : ℕ → ℕ → Bool → Type 0
-CountsFailure before now true = Rose before now
-CountsFailure before now false = before ≤ now
-
--- all links were accepted; where the net failed, fewer were
-abbrev pub CountsConnections : ℕ → ℕ → Bool → Type 0
-CountsConnections links connections true = links < connections
-CountsConnections links connections false = links ≡ connections
+-- behind these calls, an accept for each link; where the net failed, one more was made; one at which memory was wanted may be missing
+abbrev pub AsksFor : {L : Type 0} → Option (List NetCall) → Option (List NetCall) → List NetCall → List L → Option NetFault → Type 0
+AsksFor before now calls links None = now ≡ with_more before (calls ++ accepts links)
+AsksFor before now calls links (Some Failed) = now ≡ with_more before (calls ++ accepts_more links)
+AsksFor before now calls links (Some fault.WantOfMemory) = (now ≡ with_more before (calls ++ accepts links)) ⊎ (now ≡ with_more before (calls ++ accepts_more links))
 
 -- The session is the play of the history from the opening session on, which was sound at each place. Its log has the events of the opening
 -- session and, after them, those that were answered Stamped, and no others.
@@ -66,14 +55,14 @@ pub record Plays (opening : PlainSession) (history : List Item) (session : Plain
 abbrev pub EndUnkeptIf : {L : Type 0} → Type 0 → List (ServedConnection L) → Type 0
 EndUnkeptIf failed connections = AllByRecursion (λ one. one.ended ≡ ended.Unkept → failed) connections
 
--- what was reflected, behind these first calls of the net
+-- what was reflected, behind these first calls of the net: also where the net, or memory, gave no further link
 pub record HasReflected (gives : ℕ → Type 0) (id : SessionId) (opening : PlainSession) (kept : KeeperTells) {N L : Type 0} (tells : NetTells N L) (links : LinksTell L) (calls : List NetCall) (count : ℕ) (before now : N) (reflected : Reflected) : Type 0 where
   pub connections : List (ServedConnection L)
   pub history : List Item
   pub net : ReturnsLinks tells links before now connections
-  pub asked : tells.asked now ≡ with_more (tells.asked before) (calls ++ accepts_for (accepted_links connections) reflected.net_failed)
-  pub faults : CountsFailure (tells.faults before) (tells.faults now) reflected.net_failed
-  pub number : CountsConnections (length connections) count reflected.net_failed
+  pub asked : AsksFor (tells.asked before) (tells.asked now) calls (accepted_links connections) reflected.stopped
+  pub faults : CountsStop (tells.faults before) (tells.faults now) reflected.stopped
+  pub number : CountsLinks (length connections) count reflected.stopped
   pub ends : reflected.ends ≡ ends_of connections
   pub opener : ℕ
   pub talks : IsHistoryOf gives id opening links connections opener history
@@ -91,38 +80,19 @@ pub record HasNotListened (gives : ℕ → Type 0) (opening : PlainSession) (kep
   pub faults : Rose (tells.faults before) (tells.faults now)
   pub opened : HasOnlyOpened gives opening kept
 
--- What the net was asked before memory ran out. Either nothing, and no link was accepted; or these calls, an accept for each link, and perhaps
--- one more.
-abbrev pub AsksUntilWant : {L : Type 0} → Option (List NetCall) → Option (List NetCall) → List NetCall → List L → Type 0
-AsksUntilWant before now calls links =
-    ((links ≡ []) × (now ≡ before)) ⊎ ((now ≡ with_more before (calls ++ accepts links)) ⊎ (now ≡ with_more before (calls ++ accepts_more links)))
-
--- links were served to their ends, with their talks in one history
-pub record HasServed (gives : ℕ → Type 0) (id : SessionId) (opening : PlainSession) (kept : KeeperTells) {L : Type 0} (links : LinksTell L) (connections : List (ServedConnection L)) : Type 0 where
-  pub history : List Item
-  pub opener : ℕ
-  pub talks : IsHistoryOf gives id opening links connections opener history
-  pub sound : IsSoundThrough opening history
-  pub served : AreServed (play_from opening history).log connections
-  pub ticks : AreToldWithin (play_from opening history).horizon connections
-  pub keeps : kept.keeps history
-  pub unkept : EndUnkeptIf kept.failed connections
-
--- No memory was found. Those links that were accepted, fewer than there were to be, were served to their ends, and given back.
-pub record HasWanted (gives : ℕ → Type 0) (id : SessionId) (opening : PlainSession) (kept : KeeperTells) {N L : Type 0} (tells : NetTells N L) (links : LinksTell L) (calls : List NetCall) (count : ℕ) (before now : N) : Type 0 where
-  pub connections : List (ServedConnection L)
-  pub net : ReturnsLinks tells links before now connections
-  pub asked : AsksUntilWant (tells.asked before) (tells.asked now) calls (accepted_links connections)
-  pub number : length connections < count
-  pub served : ((connections ≡ []) × HasOpenedAtMost gives opening kept) ⊎ HasServed gives id opening kept links connections
+-- No memory was found before a link was accepted. The net was asked nothing, or these calls.
+pub record HasWanted (gives : ℕ → Type 0) (opening : PlainSession) (kept : KeeperTells) {N L : Type 0} (tells : NetTells N L) (links : LinksTell L) (calls : List NetCall) (before now : N) : Type 0 where
+  pub net : ReturnsLinks tells links before now []
+  pub asked : (tells.asked now ≡ tells.asked before) ⊎ (tells.asked now ≡ with_more (tells.asked before) calls)
   pub faults : tells.faults before ≤ tells.faults now
+  pub opened : HasOpenedAtMost gives opening kept
 
 -- what comes of a session that has a keeper
 abbrev pub ReflectsKept
     : (ℕ → Type 0) → SessionId → PlainSession → KeeperTells → {N L : Type 0} → NetTells N L → LinksTell L → List NetCall → ℕ → N → N → Result Reflected KeptFault → Type 0
 ReflectsKept gives id opening kept tells links calls count before now (Ok reflected) = HasReflected gives id opening kept tells links calls count before now reflected
 ReflectsKept gives id opening kept tells links calls count before now (Err kept_fault.ListenFault) = HasNotListened gives opening kept tells links calls before now
-ReflectsKept gives id opening kept tells links calls count before now (Err kept_fault.WantOfMemory) = HasWanted gives id opening kept tells links calls count before now
+ReflectsKept gives id opening kept tells links calls count before now (Err kept_fault.WantOfMemory) = HasWanted gives opening kept tells links calls before now
 ReflectsKept gives id opening kept tells links calls count before now (Err kept_fault.Unkept) = (now ≡ before) × HasNotOpened gives opening kept
 
 -- what comes of one that has none
@@ -130,13 +100,7 @@ abbrev pub Reflects
     : (ℕ → Type 0) → SessionId → PlainSession → {N L : Type 0} → NetTells N L → LinksTell L → List NetCall → ℕ → N → N → Result Reflected ServeFault → Type 0
 Reflects gives id opening tells links calls count before now (Ok reflected) = HasReflected gives id opening no_keeper tells links calls count before now reflected
 Reflects gives id opening tells links calls count before now (Err ListenFault) = HasNotListened gives opening no_keeper tells links calls before now
-Reflects gives id opening tells links calls count before now (Err WantOfMemory) = HasWanted gives id opening no_keeper tells links calls count before now
-
--- what is answered, by what stopped the net
-abbrev pub answer_for : SessionState → List Ended → Option NetFault → Result Reflected KeptFault
-answer_for session ends None = Ok (record { session = session; ends = ends; net_failed = false })
-answer_for session ends (Some Failed) = Ok (record { session = session; ends = ends; net_failed = true })
-answer_for session ends (Some fault.WantOfMemory) = Err kept_fault.WantOfMemory
+Reflects gives id opening tells links calls count before now (Err WantOfMemory) = HasWanted gives opening no_keeper tells links calls before now
 
 -- by why the net did not listen
 abbrev pub unheard : NetFault → KeptFault

@@ -146,6 +146,7 @@ pub fn open_session<C: Clock, R: Wait, K: Keeper>(
     clock: &C,
 ) -> Result<(SharedSession<TrustAll, K>, Pass<K>), Unopened<K>>
     requires covered { IsCovered (K.holds opening.keeper) opening.session.plain.kept opening.session.plain }
+    requires written { IsCovered (K.writes opening.keeper) opening.session.plain.kept opening.session.plain }
     requires unshut { K.shut opening.keeper → ⊥ }
     ensures session { IfOk result (λ opened. opened.1.session ≡ opened.0.session) }
     ensures begins { IfOk result (λ opened. opened.1.opening ≡ opening.session.plain) }

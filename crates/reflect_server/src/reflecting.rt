@@ -1,5 +1,5 @@
 //! A session that is reflected over a net.
-ghost use Rattle.std.specs.Prelude.{◌≡◌, ◌≢◌, ◌+◌, ◌≤◌, ◌++◌, ◌∷◌, [], Err, IfErr, IfOk, vec_len, vec_capacity};
+ghost use Rattle.std.specs.Prelude.{◌≡◌, ◌≢◌, ◌+◌, ◌≤◌, ◌++◌, ◌∷◌, [], Ok, Err, IfErr, IfOk, vec_len, vec_capacity};
 ghost use Rattle.run_steps.specs.Limits.{most_connections};
 ghost use Rattle.run_steps.specs.Outside.{links_tell, net_tells};
 ghost use Rattle.tea_io.specs.Told.{with_more};
@@ -8,13 +8,13 @@ ghost use Rattle.reflect_server.specs.Opening.{gives_later};
 ghost use Rattle.reflect_server.specs.Rounds.{ended_of, links_of, with_links};
 ghost use Rattle.reflector_core.specs.Keeping.{IsCovered};
 ghost use Rattle.reflect_server.specs.Keeping.{IsUnopened, keeper_tells};
-ghost use Rattle.reflect_server.specs.Reflects.{HasRooms, IsPrepared, Reflects, ReflectsKept, answer_for, unheard, unopened_fault, with_kept_fault};
+ghost use Rattle.reflect_server.specs.Reflects.{HasRooms, IsPrepared, Reflects, ReflectsKept, unheard, unopened_fault, with_kept_fault};
 ghost use Rattle.reflect_server.specs.declared.reflection.KeptFault.TheVariants as kept_fault;
 
 use crate::accepting::{Post, Round, ServedLink, accept_all};
 use crate::opening::{LaterClock, Unopened, close_opened, open_session};
 use crate::passes::split_all;
-use crate::reflection::{Ends, KeptFault, Opening, Reflected, ServeFault, Server};
+use crate::reflection::{KeptFault, Opening, Reflected, ServeFault, Server};
 use connection::Ended;
 use reflector_core::{CallFault, Keeper, NoKeeper, Session};
 use session_lock::{Pass, SharedSession, TrustAll};
@@ -63,6 +63,7 @@ fn prepare<L: Link + Drop, C: Clock, G: Gate, R: Wait, K: Keeper>(
 ) -> Result<Prepared<L, K>, Unopened<K>>
     requires connections { server.now.connections ≤ most_connections }
     requires covered { IsCovered (K.holds opening.keeper) opening.session.plain.kept opening.session.plain }
+    requires written { IsCovered (K.writes opening.keeper) opening.session.plain.kept opening.session.plain }
     requires unshut { K.shut opening.keeper → ⊥ }
     ensures since { IfOk result (λ prepared. prepared.since ≡ opening.session.plain.horizon) }
     ensures begins { IfOk result (λ prepared. prepared.lead.opening ≡ opening.session.plain) }
@@ -115,22 +116,6 @@ fn give_back<N: Net>(
     ends
 }
 
-/// What is answered, by what stopped the net.
-fn answer(session: Session, ends: Ends, stopped: Option<NetFault>) -> Result<Reflected, KeptFault>
-    ensures { result ≡ answer_for session ends stopped }
-{
-    let net_failed = match stopped {
-        None => false,
-        Some(NetFault::Failed) => true,
-        Some(NetFault::WantOfMemory) => return Err(KeptFault::WantOfMemory),
-    };
-    Ok(Reflected {
-        session,
-        ends,
-        net_failed,
-    })
-}
-
 /// Serves, once the net listens.
 fn serve_all<
     N: Net + Drop,
@@ -144,14 +129,13 @@ fn serve_all<
     server: &Server<'_, C, G>,
     net: N,
     prepared: Prepared<N::Conn, K>,
-) -> (N, K, Result<Reflected, KeptFault>)
+) -> (N, K, Reflected)
     requires connections { server.now.connections ≤ most_connections }
     requires prepared { IsPrepared (gives_later (C.gives server.now.clock.now) prepared.since) server.now.connections prepared }
     ensures reflects { ReflectsKept (gives_later (C.gives server.now.clock.now) prepared.since) server.now.id prepared.lead.opening
         (keeper_tells K.holds K.shut K.faults prepared.shared.faults prepared.lead.opening result.1)
         (net_tells N.coming N.over N.asked N.faults N.lent N.link_counts) (links_tell N.Conn.coming N.Conn.heard N.Conn.sent N.Conn.counts)
-        [] server.now.connections net result.0 result.2 }
-    ensures never { result.2 ≢ Err kept_fault.Unkept }
+        [] server.now.connections net result.0 (Ok result.2) }
 {
     let Prepared {
         since,
@@ -185,7 +169,12 @@ fn serve_all<
     } = accept_all(&post, round, passes, 0);
     let ends = List::from_vec(give_back(&mut net, served, ends));
     let (session, keeper) = shared.close_kept(lead);
-    (net, keeper, answer(session, ends, stopped))
+    let reflected = Reflected {
+        session,
+        ends,
+        stopped,
+    };
+    (net, keeper, reflected)
 }
 
 /// Why nothing was reflected of a session that was opened, by why the net did not listen.
@@ -226,6 +215,7 @@ pub fn reflect_kept<
 ) -> (N, K, Result<Reflected, KeptFault>)
     requires connections { (1 ≤ server.now.connections) × (server.now.connections ≤ most_connections) }
     requires covered { IsCovered (K.holds opening.keeper) opening.session.plain.kept opening.session.plain }
+    requires written { IsCovered (K.writes opening.keeper) opening.session.plain.kept opening.session.plain }
     requires unshut { K.shut opening.keeper → ⊥ }
     ensures { ReflectsKept (gives_later (C.gives server.now.clock.now) opening.session.plain.horizon) server.now.id opening.session.plain
         (keeper_tells K.holds K.shut K.faults (K.faults opening.keeper) opening.session.plain result.1)
@@ -237,7 +227,10 @@ pub fn reflect_kept<
         Err(Unopened { keeper, fault }) => return (net, keeper, Err(unopened_fault(fault))),
     };
     match net.listen(server.address) {
-        Ok(()) => serve_all(rt, alloc, server, net, prepared),
+        Ok(()) => {
+            let (net, keeper, reflected) = serve_all(rt, alloc, server, net, prepared);
+            (net, keeper, Ok(reflected))
+        }
         Err(fault) => {
             let Prepared { shared, lead, .. } = prepared;
             (net, close_opened(shared, lead), Err(unheard(fault)))

@@ -2,7 +2,7 @@
 use connection::Ended;
 use reflector_core::{Keeper, Session};
 use tea_base::{List, SessionId, Text};
-use tea_io::{Clock, Gate};
+use tea_io::{Clock, Gate, NetFault};
 
 /// What a reflector is to serve: its session's id, the address at which it listens, and how many links it accepts. By the clock it asks
 /// the session; each thread passes the gate before it serves its link.
@@ -18,12 +18,12 @@ pub struct Server<'a, C: Clock, G: Gate> {
 /// How connections ended, in the order in which their links were accepted.
 pub type Ends = List<Ended>;
 
-/// What was served: the session in the end, and how each connection ended. `net_failed` says that the net failed to give one more.
+/// What was served: the session in the end, and how each connection ended. `stopped` says why fewer links were served than there were to be.
 #[derive(Drop)]
 pub struct Reflected {
     pub session: Session,
     pub ends: Ends,
-    pub net_failed: bool,
+    pub stopped: Option<NetFault>,
 }
 
 /// A session that is to be reflected, and its keeper.
@@ -38,6 +38,7 @@ pub struct Opening<K: Keeper> {
 pub enum ServeFault {
     /// The net failed to listen. No link was accepted.
     ListenFault,
+    /// No link was accepted.
     WantOfMemory,
 }
 
@@ -46,6 +47,7 @@ pub enum ServeFault {
 pub enum KeptFault {
     /// The net failed to listen. No link was accepted.
     ListenFault,
+    /// No link was accepted.
     WantOfMemory,
     /// An opening Leave was not kept. The net was asked nothing.
     Unkept,

@@ -51,7 +51,7 @@ fn serves_two_views(outcome: &Outcome) -> bool {
     let Ok(reflected) = outcome else {
         return false;
     };
-    !reflected.net_failed
+    matches!(reflected.stopped, None)
         && reflected.ends.len() == 2
         && matches!(reflected.ends.get(0), Some(Ended::LinkEnd))
         && matches!(reflected.ends.get(1), Some(Ended::Left))

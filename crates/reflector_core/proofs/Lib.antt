@@ -8,3 +8,4 @@ pub mod NotedLaws
 pub mod StoredLaws
 pub mod NextHereLaws
 pub mod KeepingLaws
+pub mod GoingBackLaws

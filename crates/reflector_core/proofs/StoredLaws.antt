@@ -59,7 +59,7 @@ stored_again s = ap (plain_of s.log s.horizon) (kept_again s.kept)
 
 -- ---- the table of a log
 
-same_kind : (recorded : What) → noted_kind (kinds.entry_kind recorded) ≡ entry_kind recorded
+pub same_kind : (recorded : What) → noted_kind (kinds.entry_kind recorded) ≡ entry_kind recorded
 same_kind what.Join = refl
 same_kind what.Exit = refl
 same_kind (what.Event number payload) = refl
@@ -68,7 +68,7 @@ some_is : {X : Type 0} (x y : X) → ◌≡◌ {A = Option X} (Some x) (Some y) 
 some_is x y e = cc
 
 -- the entry with a seq is as the log says of it
-noted_as : (log : List Entry) (i view : ℕ) (kind : EntryKind) (k : Kind) (entry : Entry) → IsLegal log → slice_get log i ≡ Some entry
+pub noted_as : (log : List Entry) (i view : ℕ) (kind : EntryKind) (k : Kind) (entry : Entry) → IsLegal log → slice_get log i ≡ Some entry
     → option_map (λ (e : Entry). e.view) (slice_get log i) ≡ Some view → option_map (λ (e : Entry). kinds.entry_kind e.what) (slice_get log i) ≡ Some kind
     → k ≡ noted_kind kind → IsNotedAs (i + 1) view k entry
 noted_as log i view kind k entry legal at seen of_kind is =

@@ -1,5 +1,5 @@
 -- What a keeper holds of a session, and how both go on together.
-use Rattle.std.specs.Prelude.{◌≡◌, ◌⊎◌, ℕ, ◌+◌, ◌≤◌, ◌<◌, max, List, length, Option, Some, Result, Ok, Err, OnOk, OnErr}
+use Rattle.std.specs.Prelude.{◌≡◌, ◌⊎◌, ℕ, ◌+◌, ◌≤◌, ◌<◌, max, Bool, true, List, length, take, Option, Some, Result, Ok, Err, OnOk, OnErr}
 use Rattle.tea_io.specs.Told.{Rose}
 use Rattle.tea_base.specs.declared.entry.What.{What}
 use Rattle.tea_base.specs.Legal.{MayFollow}
@@ -11,6 +11,7 @@ use Rattle.reflector_core.specs.PlainSession.{PlainSession, IsSoundSession}
 use Rattle.reflector_core.specs.Answer.{MayWantMemory}
 use Rattle.reflector_core.specs.declared.request.Reply.{Reply}
 use Rattle.reflector_core.specs.declared.request.Reply.TheVariants.{Joined, Stamped, Again, Ticked, Left, Kept, Batch, Refused}
+use Rattle.reflector_core.specs.declared.session.going_back.Mark.{Mark}
 use Rattle.reflector_core.specs.declared.keeper.Unkept.{Unkept}
 use Rattle.reflector_core.specs.declared.keeper.CallFault.{CallFault}
 use Rattle.reflector_core.specs.declared.keeper.CallFault.TheVariants as fault
@@ -76,6 +77,16 @@ pub record KeepCause {T : Type 0} (shut_old shut_new : Type 0) (faults_old fault
   pub unkept : OnErr result shut_new
   pub shuts : ShutsByFault shut_old shut_new faults_old faults_new
 
+-- ---- a session that goes back
+
+-- how far a session had come
+abbrev pub mark_of : PlainSession → Mark
+mark_of s = record { len = length s.log; horizon = s.horizon }
+
+-- the session as it was there, with what is kept now
+abbrev pub back_to : Mark → PlainSession → PlainSession
+back_to mark s = record { log = take mark.len s.log; horizon = mark.horizon; kept = s.kept }
+
 -- ---- a session with its keeper
 
 -- what is held covers the session, and keeps what it kept earlier or what the session keeps
@@ -85,10 +96,16 @@ pub record IsCovered (holds : PlainSession → Type 0) (earlier : Option Base) (
   pub covers : Covers s held
   pub kept : (held.kept ≡ earlier) ⊎ (held.kept ≡ s.kept)
 
--- What was held and covered the session as it was covers it as it is. A keeper is shut by a fault alone, and the session of
--- one that is shut does not change.
-pub record KeepsPace {K : Type 0} (holds : K → PlainSession → Type 0) (shut : K → Type 0) (faults : K → ℕ) (old new : K) (before after : PlainSession) : Type 0 where
-  pub covered : (held : PlainSession) → holds old held → Covers before held → IsCovered (holds new) held.kept after
+-- a keeper that was not shut has settled all
+abbrev pub HasSettledAll : Bool → Type 0 → Type 0
+HasSettledAll settled_new shut_old = (settled_new ≡ true) × (shut_old → ⊥)
+
+-- What was written and covered the session as it was covers it as it is, unless a call failed. What was held is held, or all is settled; and so
+-- it is where another snapshot is kept. A keeper is shut by a fault alone, and the session of one that is shut does not change.
+pub record KeepsPace {K : Type 0} (holds writes : K → PlainSession → Type 0) (settled : K → Bool) (shut : K → Type 0) (faults : K → ℕ) (old new : K) (before after : PlainSession) : Type 0 where
+  pub written : (held : PlainSession) → writes old held → Covers before held → (shut new → ⊥) → IsCovered (writes new) held.kept after
+  pub held : HoldsStill (holds old) (holds new) ⊎ HasSettledAll (settled new) (shut old)
+  pub kept : (after.kept ≡ before.kept) ⊎ HasSettledAll (settled new) (shut old)
   pub shuts : ShutsByFault (shut old) (shut new) (faults old) (faults new)
   pub still : shut old → after ≡ before
 

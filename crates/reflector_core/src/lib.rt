@@ -13,5 +13,5 @@ pub use laws::{
 };
 pub use request::{Refusal, Replies, Reply, Request, Requests};
 pub use run::play;
-pub use session::Session;
+pub use session::{Mark, Session};
 pub use wire_frames::{Base, Want};

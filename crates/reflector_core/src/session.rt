@@ -12,6 +12,7 @@ ghost use Rattle.reflector_core.specs.Play.{first_session};
 mod appending;
 mod entries;
 mod events;
+mod going_back;
 mod presence;
 mod readings;
 mod resuming;
@@ -23,6 +24,7 @@ use crate::keeper::{CallFault, Keeper, NoKeeper};
 use crate::request::{Reply, Request};
 use crate::session::events::Sent;
 use crate::session::room::make_room;
+pub use going_back::Mark;
 use resend_table::Resend;
 use session_log::Log;
 use std::alloc::Global;
@@ -131,8 +133,9 @@ impl Session {
         }
     }
 
-    /// The same of a session with a keeper. What will change is kept before it changes: all memory is taken first, then
-    /// the keeper keeps it, and then nothing fails. Where it is not kept, the session is as it was.
+    /// The same of a session with a keeper. What will change is written before it changes: all memory is taken first, then
+    /// the keeper writes it, and then nothing fails. Where it is not written, the session is as it was. It is for the caller
+    /// to settle it before the reply is told; where that fails, the session can go back.
     pub fn call_kept<K: Keeper>(
         &mut self,
         keeper: &mut K,
@@ -146,7 +149,7 @@ impl Session {
         ensures used { UsesAtMost self.old self.new
             (entries_used request.now) (bytes_used request.now) }
         ensures cause { HasCause (answer self.old.plain request.now).reply (K.shut keeper.new) result }
-        ensures pace { KeepsPace K.holds K.shut K.faults keeper.old keeper.new
+        ensures pace { KeepsPace K.holds K.writes K.settled K.shut K.faults keeper.old keeper.new
             self.old.plain self.new.plain }
     {
         let reply = match request {

@@ -1,6 +1,7 @@
 -- The readings of a log after one more entry, and what a table tells of them.
-use Rattle.std.proofs.Common.{ℕ, ◌+◌, ◌-◌, ◌<◌, ◌≤◌, ◌≡◌, Bool, true, false, cond, eqb, ◌&&◌, ◌||◌, List, [], ◌∷◌, ◌++◌, Option, Some, None, option_map, unwrap_or, length, length-append, slice_get, zero, suc, refl, sym, ap, ◌∙◌, arith}
-use Rattle.std.proofs.lemmas.Bool.{eqb-true}
+use Rattle.std.proofs.Common.{ℕ, ◌+◌, ◌-◌, ◌<◌, ◌≤◌, ◌≡◌, Bool, true, false, cond, eqb, nat_eq, ◌&&◌, ◌||◌, List, [], ◌∷◌, ◌++◌, Option, Some, None, option_map, unwrap_or, length, length-append, slice_get, zero, suc, refl, sym, ap, ◌∙◌, arith}
+use Rattle.std.proofs.lemmas.Bool.{eqb-true, eq-eqb}
+use Rattle.indexmap.specs.IndexMap.{get}
 use Rattle.std.proofs.lemmas.Bool.Decides.{nat_tests}
 use Rattle.std.proofs.lemmas.List.{append-nil}
 use Rattle.std.proofs.lemmas.List.Sums.{length-filter, count_by-le-length}
@@ -11,9 +12,10 @@ use Rattle.tea_base.specs.Readings.{current, is_here, last_number, here_count, v
 use Rattle.tea_base.specs.Limits.{most_entries}
 use Rattle.tea_base.proofs.LogLaws.{last_presence-push, sent-push, here_count-push, here_count-le-length}
 use Rattle.resend_table.specs.declared.stand.Kind.{Kind}
+use Rattle.resend_table.specs.declared.stand.Kind.TheVariants.{Join, Exit, Event}
 use Rattle.resend_table.specs.declared.stand.Stand.{Stand}
 use Rattle.resend_table.specs.declared.table.Resend.{Resend}
-use Rattle.resend_table.specs.Stands.{entry_kind, is_event_kind, absent_stand, stand_of, stand_after, here_count_after, seq_in, IsNotedAs}
+use Rattle.resend_table.specs.Stands.{entry_kind, is_event_kind, absent_stand, stand_of, stand_after, here_count_after, here_count_before, seq_in, IsNotedAs}
 use Rattle.resend_table.specs.Noted.{HasNoted, stand_at}
 
 -- ---- how a view stands
@@ -50,7 +52,7 @@ stood_by true what.Exit seq current here last = let e : last ≡ last + 0 = omeg
 stood_by true (what.Event number payload) seq current here last = refl
 stood_by false what seq current here last = let e : last ≡ last + 0 = omega arith in ap (made_stand current here) e
 
-stand-push : (log : List Entry) (entry : Entry) (view : ℕ) → stand_of (log ++ entry ∷ []) view ≡ cond (eqb entry.view view) (stand_after (stand_of log view) entry.seq (entry_kind entry.what)) (stand_of log view)
+pub stand-push : (log : List Entry) (entry : Entry) (view : ℕ) → stand_of (log ++ entry ∷ []) view ≡ cond (eqb entry.view view) (stand_after (stand_of log view) entry.seq (entry_kind entry.what)) (stand_of log view)
 stand-push log entry view =
     rw (current-push log entry view, is_here-push log entry view, last_number-push log entry view)
     (sym (stood_by (eqb entry.view view) entry.what entry.seq (current log view) (is_here log view) (last_number log view)))
@@ -205,3 +207,110 @@ few_here table log told short = omega (arith, told.here, here_count-le-length lo
 
 pub few_sent : (table : Resend) (view : ℕ) (stand : Stand) → stand ≡ stand_at table view → (log : List Entry) → HasNoted table log → length log < most_entries → stand.last < most_entries
 few_sent table view stand is log told short = omega (arith, last_told table view stand is log told, short)
+
+-- ---- the last entry is forgotten
+
+here_back : (what : What) (here : Bool) (before after : ℕ) → after + cond ((is_join what || is_exit what) && here) 1 0 ≡ before + cond (is_join what) 1 0 → here_count_before after here (entry_kind what) ≡ before
+here_back what.Join true before after e = omega arith
+here_back what.Join false before after e = omega arith
+here_back what.Exit true before after e = omega arith
+here_back what.Exit false before after e = omega arith
+here_back (what.Event number payload) here before after e = omega arith
+
+here-pop : (log : List Entry) (entry : Entry) → here_count_before (here_count (log ++ entry ∷ [])) (is_here log entry.view) (entry_kind entry.what) ≡ here_count log
+here-pop log entry = here_back entry.what (is_here log entry.view) (here_count log) (here_count (log ++ entry ∷ [])) (here_count-push log entry)
+
+here_before_as : (entry : Entry) (seq view : ℕ) (kind : Kind) (log : List Entry) (count : ℕ) → IsNotedAs seq view kind entry
+    → here_count_before count (is_here log view) kind ≡ here_count_before count (is_here log entry.view) (entry_kind entry.what)
+here_before_as entry seq view kind log count is = rw (is.1, is.2) refl
+
+slice_get-behind : (log : List Entry) → slice_get log (length log) ≡ None
+slice_get-behind [] = refl
+slice_get-behind (first ∷ rest) = slice_get-behind rest
+
+-- a view has no Event with the number after its last one
+no_next : (log : List Entry) (view : ℕ) → option_map (λ (e : Entry). e.seq) (view_event log view (last_number log view + 1)) ≡ None
+no_next log view =
+    let counted : eqb (last_number log view + 1) 0 ≡ false = grind (arith, nat_tests) in
+    let place : last_number log view + 1 - 1 ≡ length (view_events log view) = omega arith in
+    rw (counted, place) (ap (option_map (λ (e : Entry). e.seq)) (slice_get-behind (view_events log view)))
+
+-- the stand of the entry's view is what it was, and so are all others
+back_stand_if : (b : Bool) (log : List Entry) (own other seq : ℕ) (kind : Kind) → eqb own other ≡ b
+    → cond b (stand_of log own) (cond b (stand_after (stand_of log other) seq kind) (stand_of log other)) ≡ stand_of log other
+back_stand_if true log own other seq kind e = let same : own ≡ other = eqb-true own other e in ap (stand_of log) same
+back_stand_if false log own other seq kind e = refl
+
+-- the Event's seq is gone, and all others stay
+back_seq_if : (same next event : Bool) (log : List Entry) (own other number : ℕ) (seq : ℕ) → eqb own other ≡ same → eqb (last_number log own + 1) number ≡ next
+    → cond (event && (same && next)) None (cond (event && (same && eqb (last_number log other + 1) number)) (Some seq) (option_map (λ (e : Entry). e.seq) (view_event log other number)))
+    ≡ option_map (λ (e : Entry). e.seq) (view_event log other number)
+back_seq_if true true true log own other number seq e n =
+    let here : own ≡ other = eqb-true own other e in
+    let next : last_number log own + 1 ≡ number = eqb-true (last_number log own + 1) number n in
+    sym (no_next log other) ∙ ap (λ (k : ℕ). option_map (λ (t : Entry). t.seq) (view_event log other k)) (sym (ap (λ (v : ℕ). last_number log v + 1) here) ∙ next)
+back_seq_if true false true log own other number seq e n =
+    let here : own ≡ other = eqb-true own other e in
+    let apart : eqb (last_number log other + 1) number ≡ false = sym (ap (λ (v : ℕ). eqb (last_number log v + 1) number) here) ∙ n in
+    rw apart refl
+back_seq_if false next true log own other number seq e n = refl
+back_seq_if same next false log own other number seq e n = refl
+
+-- where each part of the table forgot the entry
+module _ (before after : Resend) (log : List Entry) (entry : Entry) (seq view : ℕ) (kind : Kind) (stand : Stand) (told : HasNoted before (log ++ entry ∷ [])) (is : IsNotedAs seq view kind entry) (stood : stand ≡ stand_of log view) where
+  back_stand : (v : ℕ) → stand_at after v ≡ cond (eqb view v) stand (stand_at before v) → stand_at after v ≡ stand_of log v
+  back_stand v step =
+      step
+      ∙ ap (λ (s : Stand). cond (eqb view v) s (stand_at before v)) stood
+      ∙ ap (λ (s : Stand). cond (eqb view v) (stand_of log view) s) (told.stands v)
+      ∙ ap (λ (s : Stand). cond (eqb view v) (stand_of log view) s) (stand-push log entry v)
+      ∙ ap (λ (s : Stand). cond (eqb view v) (stand_of log view) s) (sym (stand_as entry seq view kind v (stand_of log v) (stand_of log v) is))
+      ∙ back_stand_if (eqb view v) log view v seq kind refl
+
+  back_seq : (v number : ℕ) → seq_in after.seqs v number ≡ cond (is_event_kind kind && (eqb view v && eqb (stand.last + 1) number)) None (seq_in before.seqs v number)
+      → seq_in after.seqs v number ≡ option_map (λ (e : Entry). e.seq) (view_event log v number)
+  back_seq v number step =
+      step
+      ∙ ap (λ (s : Stand). cond (is_event_kind kind && (eqb view v && eqb (s.last + 1) number)) None (seq_in before.seqs v number)) stood
+      ∙ ap (λ (o : Option ℕ). cond (is_event_kind kind && (eqb view v && eqb (last_number log view + 1) number)) None o) (told.seqs v number ∙ event-push log entry v number)
+      ∙ ap (λ (o : Option ℕ). cond (is_event_kind kind && (eqb view v && eqb (last_number log view + 1) number)) None o)
+      (sym (seq_as entry seq view kind v number (last_number log v + 1) (option_map (λ (e : Entry). e.seq) (view_event log v number)) is))
+      ∙ back_seq_if (eqb view v) (eqb (last_number log view + 1) number) (is_event_kind kind) log view v number seq refl refl
+
+  back_here : after.here_count ≡ here_count_before before.here_count stand.here kind → after.here_count ≡ here_count log
+  back_here step =
+      step
+      ∙ ap (λ (n : ℕ). here_count_before n stand.here kind) told.here
+      ∙ ap (λ (s : Stand). here_count_before (here_count (log ++ entry ∷ [])) s.here kind) stood
+      ∙ here_before_as entry seq view kind log (here_count (log ++ entry ∷ [])) is
+      ∙ here-pop log entry
+
+  pub forgotten : ((v : ℕ) → stand_at after v ≡ cond (eqb view v) stand (stand_at before v))
+      → ((v number : ℕ) → seq_in after.seqs v number ≡ cond (is_event_kind kind && (eqb view v && eqb (stand.last + 1) number)) None (seq_in before.seqs v number))
+      → after.here_count ≡ here_count_before before.here_count stand.here kind
+      → HasNoted after log
+  forgotten stands seqs here = record {
+    stands = λ v. back_stand v (stands v);
+    seqs = λ v number. back_seq v number (seqs v number);
+    here = back_here here;
+  }
+
+-- no entry leaves its view as one that no entry names
+some_stand : (stand : Stand) (seq : ℕ) (kind : Kind) → 0 < seq → stand_after stand seq kind ≡ absent_stand → ⊥
+some_stand stand seq Join counted e = let here : true ≡ false = ap (λ (s : Stand). s.here) e in cc
+some_stand stand seq Exit counted e = let none : seq ≡ 0 = ap (λ (s : Stand). s.current) e in omega (arith, none, counted)
+some_stand stand seq Event counted e = let none : stand.last + 1 ≡ 0 = ap (λ (s : Stand). s.last) e in omega (arith, none)
+
+-- so the table has it
+pub is_there : (table : Resend) (log : List Entry) (entry : Entry) (seq view : ℕ) (kind : Kind) → 0 < seq → HasNoted table (log ++ entry ∷ []) → IsNotedAs seq view kind entry → get nat_eq table.stands view ≡ None → ⊥
+is_there table log entry seq view kind counted told is none =
+    let at : stand_at table view ≡ absent_stand = ap (λ (o : Option Stand). unwrap_or o absent_stand) none in
+    let pushed : stand_of (log ++ entry ∷ []) view ≡ stand_after (stand_of log view) seq kind =
+    stand-push log entry view ∙ sym (stand_as entry seq view kind view (stand_of log view) (stand_of log view) is) ∙ ap (λ (b : Bool). cond b (stand_after (stand_of log view) seq kind) (stand_of log view)) (eq-eqb view view refl) in
+    some_stand (stand_of log view) seq kind counted (sym pushed ∙ sym (told.stands view) ∙ at)
+
+pub few_after : (table : Resend) (log : List Entry) (entry : Entry) → HasNoted table (log ++ entry ∷ []) → length log < most_entries → table.here_count ≤ most_entries
+few_after table log entry told short = omega (arith, told.here, here_count-le-length (log ++ entry ∷ []), length-append log (entry ∷ []), short)
+
+pub few_before : (log : List Entry) (view : ℕ) (stand : Stand) → stand ≡ stand_of log view → length log < most_entries → stand.last < most_entries
+few_before log view stand is short = let e : stand.last ≡ last_number log view = ap (λ (s : Stand). s.last) is in omega (arith, e, last_number-le log view, short)

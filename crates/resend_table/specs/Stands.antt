@@ -47,6 +47,12 @@ here_count_after count here Join = if here then count else count + 1
 here_count_after count here Exit = if here then count - 1 else count
 here_count_after count here Event = count
 
+-- and of how many were here before it
+abbrev pub here_count_before : ℕ → Bool → Kind → ℕ
+here_count_before count here Join = if here then count else count - 1
+here_count_before count here Exit = if here then count + 1 else count
+here_count_before count here Event = count
+
 -- ---- what the maps hold
 
 abbrev pub stand_in : {S : Type 0} → IndexMap ℕ Stand S → ℕ → Stand

@@ -4,5 +4,5 @@
 mod stand;
 mod table;
 
-pub use stand::Kind;
+pub use stand::{Kind, Stand};
 pub use table::Resend;

@@ -1,7 +1,7 @@
 //! How a view stands.
-ghost use Rattle.std.specs.Prelude.{◌≡◌, ◌<◌};
+ghost use Rattle.std.specs.Prelude.{◌≡◌, ◌<◌, ◌≤◌};
 ghost use Rattle.tea_base.specs.Limits.{most_entries};
-ghost use Rattle.resend_table.specs.Stands.{absent_stand, stand_after, with_presence, here_count_after};
+ghost use Rattle.resend_table.specs.Stands.{absent_stand, stand_after, with_presence, here_count_after, here_count_before};
 
 /// What an entry records of its view.
 #[derive(Clone, Copy, Debug, PartialEq, Eq)]
@@ -71,6 +71,18 @@ pub fn here_count_after(count: u32, here: bool, kind: Kind) -> u32
         Kind::Join if here => count,
         Kind::Join => count.saturating_add(1),
         Kind::Exit if here => count.saturating_sub(1),
+        Kind::Exit | Kind::Event => count,
+    }
+}
+
+/// How many views were here before an entry of a view, where `here` says whether it was here then.
+pub fn here_count_before(count: u32, here: bool, kind: Kind) -> u32
+    ensures { count ≤ most_entries → result ≡ here_count_before count here kind }
+{
+    match kind {
+        Kind::Join if here => count,
+        Kind::Join => count.saturating_sub(1),
+        Kind::Exit if here => count.saturating_add(1),
         Kind::Exit | Kind::Event => count,
     }
 }

@@ -1,10 +1,10 @@
 //! A table of resends.
-ghost use Rattle.std.specs.Prelude.{◌≡◌, ◌+◌, ◌<◌, ◌≤◌, ◌&&◌, ◌==◌, ℕ, Some, if◌then◌else◌};
+ghost use Rattle.std.specs.Prelude.{◌≡◌, ◌≢◌, ◌+◌, ◌<◌, ◌≤◌, ◌&&◌, ◌==◌, ℕ, Some, None, if◌then◌else◌};
 ghost use Rattle.tea_base.specs.Limits.{most_entries};
-ghost use Rattle.indexmap.specs.IndexMap.{Updates, spare as room_of};
+ghost use Rattle.indexmap.specs.IndexMap.{Updates, get as at_key, spare as room_of};
 ghost use Rattle.resend_table.specs.Stands.{is_event_kind, seq_in};
 
-use crate::stand::{Kind, Stand, here_count_after};
+use crate::stand::{Kind, Stand, here_count_after, here_count_before};
 use indexmap::IndexMap;
 use std::alloc::Global;
 use std::hash::Hash;
@@ -37,6 +37,18 @@ fn put<K: Eq + Hash + Drop, V: Drop>(map: &mut IndexMap<K, V>, key: K, value: V)
     }
 }
 
+/// Puts a value at a key that has one.
+fn replace<K: Eq + Hash + Drop, V: Drop>(map: &mut IndexMap<K, V>, key: K, value: V)
+    ensures updates { at_key K.eq map.old key ≢ None → Updates K.eq map.old map.new key (Some value) }
+    ensures room { room_of map.old ≤ room_of map.new + 1 }
+{
+    match map.insert(key, value) {
+        Ok(_) => {}
+        // only a key that is not there wants memory
+        Err(_) => {}
+    }
+}
+
 /// Puts the seq of an entry at its view and the number of its Event, if it is one.
 fn put_seq(seqs: &mut IndexMap<(u32, u32), u32>, view: u32, last: u32, seq: u32, kind: Kind)
     requires { 0 < room_of seqs.old }
@@ -51,11 +63,26 @@ fn put_seq(seqs: &mut IndexMap<(u32, u32), u32>, view: u32, last: u32, seq: u32,
     }
 }
 
+/// Takes away the seq of a view's Event, if the entry is one, before which `last` were sent.
+fn remove_seq(seqs: &mut IndexMap<(u32, u32), u32>, view: u32, last: u32, kind: Kind)
+    ensures seqs { last < most_entries → (v number : ℕ) → seq_in seqs.new v number ≡
+        (if is_event_kind kind && (view == v && last + 1 == number) then None
+        else seq_in seqs.old v number) }
+    ensures room { room_of seqs.old ≤ room_of seqs.new }
+{
+    match kind {
+        Kind::Join | Kind::Exit => {}
+        Kind::Event => {
+            let _ = seqs.swap_remove(&(view, last.saturating_add(1)));
+        }
+    }
+}
+
 impl Resend {
     ghost use Rattle.std.specs.Prelude.{List, [], ◌∷◌, ◌++◌, length, option_map, IsOk, OnOk, OnErr};
     ghost use Rattle.tea_base.specs.declared.entry.Entry.{Entry};
     ghost use Rattle.tea_base.specs.Readings.{current, is_here, last_number, here_count, view_event};
-    ghost use Rattle.resend_table.specs.Stands.{IsNotedAs};
+    ghost use Rattle.resend_table.specs.Stands.{IsNotedAs, stand_of};
     ghost use Rattle.resend_table.specs.Noted.{HasNoted, KeepsNoted, stand_at, spare_of};
 
     /// The table that noted nothing, without room. Takes no memory.
@@ -109,6 +136,21 @@ impl Resend {
         put(&mut self.stands, view, stand.after(seq, kind));
         self.here_count = here_count_after(self.here_count, stand.here, kind);
         self.spare -= 1;
+    }
+
+    /// Forgets the entry that was noted last. It takes of it what `note` took, and how its view stood before it. Takes no
+    /// memory, and gives none back: the room for one entry is gone.
+    pub fn forget(&mut self, seq: u32, view: u32, kind: Kind, stand: Stand)
+        requires { 0 < seq }
+        ensures noted { (log : List Entry) → (entry : Entry) → HasNoted self.old (log ++ entry ∷ []) →
+            length log < most_entries → IsNotedAs seq view kind entry → stand ≡ stand_of log view →
+            HasNoted self.new log }
+    {
+        let Stand { last, here, .. } = stand;
+        remove_seq(&mut self.seqs, view, last, kind);
+        replace(&mut self.stands, view, stand);
+        self.here_count = here_count_before(self.here_count, here, kind);
+        self.spare = self.spare.saturating_sub(1);
     }
 
     /// How a view stands.

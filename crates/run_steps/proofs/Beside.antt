@@ -1,7 +1,7 @@
 -- Steps over some parts of the outside are steps over all.
 use Rattle.std.proofs.Common.{◌≡◌, inl, inr, List, [], ◌∷◌, Option, Some, None, ap}
 use Rattle.std.specs.Prelude.{⊤}
-use Rattle.run_steps.specs.Steps.{Step, Loads, Puts, Prints, Connects, Returns, Hears, Sends}
+use Rattle.run_steps.specs.Steps.{Step, Loads, Puts, Looks, Prints, Connects, Returns, Hears, Sends}
 use Rattle.run_steps.specs.Outside.{Outside, outside, OutsideTells, FilesTell, NetTells, LinksTell, Came, Well, Failed, WantedMemory, Cut, ActsOn, Acts}
 
 -- ---- with files that stay
@@ -16,6 +16,7 @@ module _ {F W N L : Type 0} (files : FilesTell F) (tells : OutsideTells ⊤ W N 
   pub acts_with_files : (came : Came) (step : Step) (old new : Outside ⊤ W N L) → ActsOn tells came step old new → ActsOn files_too came step (with_files old) (with_files new)
   acts_with_files came (Loads ask given) old new (loads, kept) = absurd (rw without at loads)
   acts_with_files came (Puts name bytes) old new (puts, kept) = absurd (rw without at puts)
+  acts_with_files came (Looks name) old new (looks, kept) = absurd (rw without at looks)
   acts_with_files came (Prints text) old new (prints, kept) = (prints, ap with_files kept)
   acts_with_files came (Connects address) old new (free, connects, kept) = (free, connects, ap with_files kept)
   acts_with_files came Returns old new (well, returns, kept) = (well, returns, ap with_files kept)
@@ -41,6 +42,7 @@ module _ {F W N L : Type 0} (net : NetTells N L) (tells : OutsideTells F W ⊤ L
   pub acts_with_net : (came : Came) (step : Step) (old new : Outside F W ⊤ L) → ActsOn tells came step old new → ActsOn net_too came step (with_net old) (with_net new)
   acts_with_net came (Loads ask given) old new (loads, kept) = (loads, ap with_net kept)
   acts_with_net came (Puts name bytes) old new (puts, kept) = (puts, ap with_net kept)
+  acts_with_net came (Looks name) old new (looks, kept) = (looks, ap with_net kept)
   acts_with_net came (Prints text) old new (prints, kept) = (prints, ap with_net kept)
   acts_with_net came (Connects address) old new (free, connects, kept) = absurd (rw without at connects)
   acts_with_net came Returns old new (well, returns, kept) = absurd (rw without at returns)
@@ -66,6 +68,7 @@ module _ {F W N L : Type 0} (net : NetTells N L) (links : LinksTell L) (tells : 
   pub acts_beside_net : (came : Came) (step : Step) (old new : Outside F W ⊤ ⊤) → ActsOn tells came step old new → ActsOn all_tell came step (beside_net old) (beside_net new)
   acts_beside_net came (Loads ask given) old new (loads, kept) = (loads, ap beside_net kept)
   acts_beside_net came (Puts name bytes) old new (puts, kept) = (puts, ap beside_net kept)
+  acts_beside_net came (Looks name) old new (looks, kept) = (looks, ap beside_net kept)
   acts_beside_net came (Prints text) old new (prints, kept) = (prints, ap beside_net kept)
   acts_beside_net came (Connects address) old new (free, connects, kept) = absurd (rw without_net at connects)
   acts_beside_net came Returns old new (well, returns, kept) = absurd (rw without_net at returns)

@@ -15,7 +15,7 @@ use Rattle.tea_io.specs.declared.net.NetCall.{NetCall}
 use Rattle.tea_io.specs.declared.net.NetCall.TheVariants as net_call
 use Rattle.tea_io.specs.declared.net.NetFault.{NetFault}
 use Rattle.tea_io.specs.declared.net.NetFault.TheVariants as net_fault
-use Rattle.run_steps.specs.Steps.{Ask, Step, Loads, Puts, Prints, Connects, Returns, Hears, Sends}
+use Rattle.run_steps.specs.Steps.{Ask, Step, Loads, Puts, Looks, Prints, Connects, Returns, Hears, Sends}
 
 -- the outside of a run, in one of its states: files, an output, a net, and the link that it gave and that is in use
 pub record Outside (F W N L : Type 0) : Type 0 where
@@ -169,6 +169,13 @@ pub record PutsFile {F : Type 0} (files : FilesTell F) (came : Came) (name bytes
   pub wanted : CountsWant came (files.wants old) (files.wants new)
   pub held : HeldAfter came name bytes (files.held old) (files.held new)
 
+-- it is looked at a name: all names keep what they hold
+pub record LooksAt {F : Type 0} (files : FilesTell F) (came : Came) (name : List ℕ) (old new : F) : Type 0 where
+  pub noted : Noted came (call.Look name) (files.asked old) (files.asked new)
+  pub counted : CountsFault came (files.faults old) (files.faults new)
+  pub wanted : CountsWant came (files.wants old) (files.wants new)
+  pub kept : AreKept (files.held old) (files.held new)
+
 -- ---- the output
 
 -- a text is written whole, or a first part of it
@@ -273,6 +280,8 @@ ActsOn tells came (Loads ask given) old new =
     OnPart tells.files (λ files. ReadsFile files came ask given old.files new.files) × (new ≡ record old { files = new.files })
 ActsOn tells came (Puts name bytes) old new =
     OnPart tells.files (λ files. PutsFile files came name bytes old.files new.files) × (new ≡ record old { files = new.files })
+ActsOn tells came (Looks name) old new =
+    OnPart tells.files (λ files. LooksAt files came name old.files new.files) × (new ≡ record old { files = new.files })
 ActsOn tells came (Prints text) old new = PrintsText tells.out came text old.out new.out × (new ≡ record old { out = new.out })
 ActsOn tells came (Connects address) old new =
     (old.link ≡ None)

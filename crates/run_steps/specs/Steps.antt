@@ -13,6 +13,8 @@ pub data Step : Type 0 where
   Loads : Ask → Option (List ℕ) → Step
   -- bytes are put under a name
   Puts : List ℕ → List ℕ → Step
+  -- it is looked whether bytes can be put under a name
+  Looks : List ℕ → Step
   -- a piece of text is printed
   Prints : List ℕ → Step
   -- a link to an address is made

@@ -1,5 +1,5 @@
 //! The calls of files, of the output, of a net and of a link, and how each came out.
-ghost use Rattle.run_steps.specs.Outside.{MakesLink, PrintsText, PutsFile, ReadsFile, SendsFrame, files_tell, links_tell, net_tells, output_tells};
+ghost use Rattle.run_steps.specs.Outside.{LooksAt, MakesLink, PrintsText, PutsFile, ReadsFile, SendsFrame, files_tell, links_tell, net_tells, output_tells};
 ghost use Rattle.run_steps.specs.Calls.{came_of, given_of, made_of};
 
 use tea_base::{Blob, Text};
@@ -37,6 +37,19 @@ pub fn put_file<F: Files>(files: &mut F, name: &Text, bytes: &[u8]) -> Result<()
         Ok(()) => Ok(()),
         Err(FileFault::Failed) => Err(CallFault::Failed),
         // A write has no limit.
+        Err(FileFault::TooLarge { len: _ }) => unreachable!(),
+        Err(FileFault::WantOfMemory) => Err(CallFault::WantOfMemory),
+    }
+}
+
+/// Looks whether bytes can be put under a name.
+pub fn look_at<F: Files>(files: &mut F, name: &Text) -> Result<(), CallFault>
+    ensures { LooksAt (files_tell F.held F.asked F.faults F.wants) (came_of result) name.now files.old files.new }
+{
+    match files.look(name) {
+        Ok(()) => Ok(()),
+        Err(FileFault::Failed) => Err(CallFault::Failed),
+        // A look has no limit.
         Err(FileFault::TooLarge { len: _ }) => unreachable!(),
         Err(FileFault::WantOfMemory) => Err(CallFault::WantOfMemory),
     }

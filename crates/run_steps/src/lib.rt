@@ -8,5 +8,5 @@
 mod calls;
 mod limits;
 
-pub use calls::{CallFault, connect, print_text, put_file, read_file, send_frame};
+pub use calls::{CallFault, connect, look_at, print_text, put_file, read_file, send_frame};
 pub use limits::{MOST_CONNECTIONS, MOST_DRILL_EVENTS, MOST_DRILL_VIEWS};

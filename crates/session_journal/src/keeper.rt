@@ -1,8 +1,8 @@
 //! The keeper of a session's journal.
-ghost use Rattle.std.specs.Prelude.{◌≡◌, ◌≤◌, ◌<◌, ◌+◌, ◌-◌, ◌^◌, ◌⊎◌, ◌++◌, ℕ, List, OnOk, OnErr, IfOk, IfErr, Ok, Err, false, true, length, nat_le};
+ghost use Rattle.std.specs.Prelude.{◌≡◌, ◌≤◌, ◌<◌, ◌+◌, ◌-◌, ◌^◌, ◌⊎◌, ◌++◌, ◌&&◌, not, ℕ, List, OnOk, OnErr, IfOk, IfErr, IsErr, Ok, Err, false, true, length, nat_le};
 ghost use Rattle.tea_io.specs.Told.{with_more, Rose};
 ghost use Rattle.tea_io.specs.Sink.{GrowsWithin};
-ghost use Rattle.store_io.specs.Store.{IsAllSafe, MayBeCut, StoreCause};
+ghost use Rattle.store_io.specs.Store.{MayBeCut, StoreCause};
 ghost use Rattle.store_io.specs.Stores.{TellsOnly};
 ghost use Rattle.byte_fields.specs.Fields.{FitsBlob, blob};
 ghost use Rattle.session_log.specs.Stored.{PlainStored, plain_of, plain_stored};
@@ -14,7 +14,7 @@ ghost use Rattle.session_journal.specs.Heads.{record_len, payload_of};
 ghost use Rattle.session_journal.specs.State.{after_change, horizon_after, may_come, has_room};
 ghost use Rattle.session_journal.specs.Journal.{most_journal, read_journal, Goes, AreBytes};
 ghost use Rattle.session_journal.specs.Reading.{read_place};
-ghost use Rattle.session_journal.specs.Keeper.{IsKeptBy, IsWritten, lease, reached_to, since_after};
+ghost use Rattle.session_journal.specs.Keeper.{IsKeptBy, IsWrittenBy, KeepsStill, lease, reached_to, since_after};
 
 use crate::change::LentChange;
 use crate::check::check_of;
@@ -27,7 +27,7 @@ use tea_base::END_OF_TIME;
 /// The most bytes of a journal. A file that is longer is none.
 pub const MOST_JOURNAL: u64 = 268_435_456;
 
-/// Why a change was not kept.
+/// Why a change was not written.
 #[derive(Clone, Copy, Debug, PartialEq, Eq)]
 pub enum KeepFault {
     /// The journal would be too long. Nothing was written.
@@ -35,6 +35,10 @@ pub enum KeepFault {
     /// The store failed, now or before. Nothing more is written.
     Unkept,
 }
+
+/// What was written was not made safe, since the store failed, now or before.
+#[derive(Clone, Copy, Debug, PartialEq, Eq)]
+pub struct Unsynced;
 
 /// A journal that grows. It is made by `open`.
 #[derive(Drop)]
@@ -48,6 +52,8 @@ pub struct Journal<S> {
     pub len: u64,
     /// How many it had after the last snapshot that it keeps, or when it was opened.
     pub since: u64,
+    /// Some of its bytes were not made safe since they were added.
+    pub dirty: bool,
     /// A call of the store has failed.
     pub shut: bool,
 }
@@ -127,23 +133,6 @@ fn append<S: Store>(
     }
 }
 
-/// Appends a record, and makes all safe.
-fn write<S: Store>(
-    store: &mut S,
-    head: &[u8],
-    payload: &[u8],
-    check: &[u8],
-) -> Result<(), StoreFault>
-    requires { length head.now + length payload.now + length check.now < 2 ^ 64 }
-    ensures ok { OnOk result (IsWritten (S.bytes store.old) (S.bytes store.new) (S.safe store.new) (head.now ++ (payload.now ++ check.now))) }
-    ensures part { OnErr result (GrowsWithin (S.bytes store.old) (S.bytes store.new) (head.now ++ (payload.now ++ check.now))) }
-    ensures safe { OnErr result (S.safe store.new ≡ S.safe store.old) }
-    ensures cause { StoreCause (S.faults store.old) (S.faults store.new) result }
-{
-    append(store, head, payload, check)?;
-    store.sync()
-}
-
 impl<S: Store> Journal<S> {
     /// The journal that was read from a store. What is after its good bytes is cut, and all others are made safe. At an error
     /// the store may be cut or not.
@@ -152,7 +141,11 @@ impl<S: Store> Journal<S> {
         ensures keeps { IfOk result (λ journal. (id bytes : List ℕ) → TellsOnly (S.bytes store) bytes → AreBytes bytes →
             read_journal id bytes ≡ Goes (read_place read.now) → read.now.good ≡ length bytes - length read.now.torn.now →
             IsKeptBy S.bytes S.safe id journal (plain_stored read.now.stored)) }
-        ensures unshut { IfOk result (λ journal. journal.shut ≡ false) }
+        // So are all its bytes.
+        ensures writes { IfOk result (λ journal. (id bytes : List ℕ) → TellsOnly (S.bytes store) bytes → AreBytes bytes →
+            read_journal id bytes ≡ Goes (read_place read.now) → read.now.good ≡ length bytes - length read.now.torn.now →
+            IsWrittenBy S.bytes S.safe id journal (plain_stored read.now.stored)) }
+        ensures unshut { IfOk result (λ journal. (journal.shut ≡ false) × (journal.dirty ≡ false)) }
         ensures since { IfOk result (λ journal. journal.since ≡ read.now.good) }
         ensures faults { IfOk result (λ journal. S.faults store ≤ S.faults journal.store) }
         ensures err { IfErr result (λ unopened. MayBeCut read.now.good (S.bytes store) (S.bytes unopened.store) (S.safe store) (S.safe unopened.store)) }
@@ -169,6 +162,7 @@ impl<S: Store> Journal<S> {
                     horizon: read.stored.horizon,
                     len: read.good,
                     since: read.good,
+                    dirty: false,
                     shut: false,
                 })
             }
@@ -180,10 +174,10 @@ impl<S: Store> Journal<S> {
         requires unshut { self.old.shut ≡ false }
         requires head { 4 ≤ length head.now }
         requires fits { length head.now + length payload.now < 2 ^ 33 }
-        ensures kept { OnOk result ((id : List ℕ) (s : PlainStored) (c : Change) → IsKeptBy S.bytes S.safe id self.old s →
+        ensures written { OnOk result ((id : List ℕ) (s : PlainStored) (c : Change) → IsWrittenBy S.bytes S.safe id self.old s →
             head.now ++ payload.now ≡ blob (change_spelling c) → IsTypedChange c → may_come s c ≡ true → horizon ≡ horizon_after s.horizon c →
-            IsKeptBy S.bytes S.safe id self.new (after_change s c)) }
-        ensures unkept { OnErr result ((id : List ℕ) (s : PlainStored) → IsKeptBy S.bytes S.safe id self.old s → IsKeptBy S.bytes S.safe id self.new s) }
+            IsWrittenBy S.bytes S.safe id self.new (after_change s c)) }
+        ensures kept { KeepsStill S.bytes S.safe self.old self.new }
         ensures full { result ≡ Err KeepFault.Full → (most_journal < self.old.len + (length head.now + length payload.now + 8)) × (self.new ≡ self.old) }
         ensures room { OnOk result (self.old.len + (length head.now + length payload.now + 8) ≤ most_journal) }
         ensures unshut { OnOk result (self.new.shut ≡ false) }
@@ -199,7 +193,7 @@ impl<S: Store> Journal<S> {
             return Err(KeepFault::Full);
         }
         let check = check_of(&self.check, &head[4..], payload);
-        match write(&mut self.store, head, payload, &check) {
+        match append(&mut self.store, head, payload, &check) {
             Err(_) => {
                 self.shut = true;
                 Err(KeepFault::Unkept)
@@ -208,20 +202,21 @@ impl<S: Store> Journal<S> {
                 self.check = check;
                 self.horizon = horizon;
                 self.len = len;
+                self.dirty = true;
                 Ok(())
             }
         }
     }
 
-    /// Keeps a change: its record is appended and synced, or nothing more is. Takes no memory.
+    /// Writes a change: its record is appended, and made safe by the next `sync`. Takes no memory.
     pub fn keep(&mut self, change: LentChange<'_>) -> Result<(), KeepFault>
         requires { length (payload_of (lent_change change)) < 2 ^ 31 }
-        // What the safe bytes were the journal of, they are with this change.
-        ensures kept { OnOk result ((id : List ℕ) (s : PlainStored) → IsKeptBy S.bytes S.safe id self.old s →
+        // What its bytes were the journal of, they are with this change.
+        ensures written { OnOk result ((id : List ℕ) (s : PlainStored) → IsWrittenBy S.bytes S.safe id self.old s →
             IsTypedChange (lent_change change.entry) → may_come s (lent_change change.entry) ≡ true →
-            IsKeptBy S.bytes S.safe id self.new (after_change s (lent_change change.entry))) }
-        // What they were the journal of, they are still.
-        ensures unkept { OnErr result ((id : List ℕ) (s : PlainStored) → IsKeptBy S.bytes S.safe id self.old s → IsKeptBy S.bytes S.safe id self.new s) }
+            IsWrittenBy S.bytes S.safe id self.new (after_change s (lent_change change.entry))) }
+        // What the safe ones were the journal of, they are still.
+        ensures kept { KeepsStill S.bytes S.safe self.old self.new }
         ensures full { result ≡ Err KeepFault.Full → (most_journal < self.old.len + record_len (lent_change change.entry)) × (self.new ≡ self.old) }
         ensures room { OnOk result (self.old.len + record_len (lent_change change.entry) ≤ most_journal) }
         ensures horizon { OnOk result (self.new.horizon ≡ horizon_after self.old.horizon (lent_change change.entry)) }
@@ -247,15 +242,15 @@ impl<S: Store> Journal<S> {
         }
     }
 
-    /// Keeps that a tick of this time may be told: a horizon is written ahead, unless one is that reaches so far. Takes no
+    /// Writes that a tick of this time may be told: a horizon is written ahead, unless one is that reaches so far. Takes no
     /// memory.
     pub fn reach(&mut self, time: u64) -> Result<(), KeepFault>
-        ensures kept { OnOk result ((id : List ℕ) (s : PlainStored) → IsKeptBy S.bytes S.safe id self.old s →
-            has_room (plain_of s.log (lease time) s.kept) ≡ true → IsKeptBy S.bytes S.safe id self.new (reached_to time s)) }
+        ensures written { OnOk result ((id : List ℕ) (s : PlainStored) → IsWrittenBy S.bytes S.safe id self.old s →
+            has_room (plain_of s.log (lease time) s.kept) ≡ true → IsWrittenBy S.bytes S.safe id self.new (reached_to time s)) }
         ensures reached { OnOk result (time ≤ self.new.horizon) }
         // A tick that is within what is written writes nothing.
         ensures within { self.old.shut ≡ false → time ≤ self.old.horizon → (result ≡ Ok tt) × (self.new ≡ self.old) }
-        ensures unkept { OnErr result ((id : List ℕ) (s : PlainStored) → IsKeptBy S.bytes S.safe id self.old s → IsKeptBy S.bytes S.safe id self.new s) }
+        ensures kept { KeepsStill S.bytes S.safe self.old self.new }
         ensures full { result ≡ Err KeepFault.Full → (most_journal < self.old.len + record_len (Reached (lease time))) × (self.new ≡ self.old) }
         ensures shut { self.old.shut ≡ true → (result ≡ Err KeepFault.Unkept) × (self.new ≡ self.old) }
         ensures unshut { OnOk result (self.new.shut ≡ false) }
@@ -269,6 +264,50 @@ impl<S: Store> Journal<S> {
         self.keep(LentChange::Reached {
             time: lease_of(time),
         })
+    }
+
+    /// Makes all that was written safe, unless all is. One call does for all records before it. A sync that failed is not tried
+    /// again.
+    pub fn sync(&mut self) -> Result<(), Unsynced>
+        // What all its bytes were the journal of, the safe ones are.
+        ensures synced { OnOk result ((id : List ℕ) (s : PlainStored) → IsWrittenBy S.bytes S.safe id self.old s → IsKeptBy S.bytes S.safe id self.new s) }
+        ensures written { OnOk result ((id : List ℕ) (s : PlainStored) → IsWrittenBy S.bytes S.safe id self.old s → IsWrittenBy S.bytes S.safe id self.new s) }
+        ensures clean { OnOk result ((self.new.dirty ≡ false) × (self.new.shut ≡ false)) }
+        ensures kept { OnErr result (KeepsStill S.bytes S.safe self.old self.new) }
+        ensures len { self.new.len ≡ self.old.len }
+        ensures shut { self.old.shut ≡ true → IsErr result × (self.new ≡ self.old) }
+        ensures cause { OnErr result ((self.new.shut ≡ true)
+            × ((self.old.shut ≡ true) ⊎ Rose (S.faults self.old.store) (S.faults self.new.store))) }
+        ensures later { S.faults self.old.store ≤ S.faults self.new.store }
+    {
+        if self.shut {
+            return Err(Unsynced);
+        }
+        if !self.dirty {
+            return Ok(());
+        }
+        match self.store.sync() {
+            Err(_) => {
+                self.shut = true;
+                Err(Unsynced)
+            }
+            Ok(()) => {
+                self.dirty = false;
+                Ok(())
+            }
+        }
+    }
+
+    /// Whether all that was written is safe.
+    pub fn is_synced(&self) -> bool
+        ensures is { result ≡ (not self.now.shut && not self.now.dirty) }
+        ensures open { result ≡ true → self.now.shut ≡ false }
+        ensures synced { result ≡ true → (id : List ℕ) (s : PlainStored) → IsWrittenBy S.bytes S.safe id self.now s → IsKeptBy S.bytes S.safe id self.now s }
+    {
+        if self.shut {
+            return false;
+        }
+        !self.dirty
     }
 
     /// Whether a snapshot of so many bytes is worth a record: the journal has grown by as many since the last one.

@@ -6,7 +6,7 @@ ghost use Rattle.session_journal.specs.declared.change.Change.{Change};
 ghost use Rattle.session_journal.specs.Frames.{Place};
 ghost use Rattle.session_journal.specs.State.{GoesOn, founded};
 ghost use Rattle.session_journal.specs.Journal.{header, read_journal, Goes, AreBytes, ReadsWhole, ReadsFirst, IsSpelled};
-ghost use Rattle.session_journal.specs.Keeper.{KeeperState, Keeps, GoesOnFrom, first_keeper};
+ghost use Rattle.session_journal.specs.Keeper.{Keeps, Writes, GoesOnFrom, first_keeper};
 ghost use Rattle.session_journal.specs.Founding.{FoundsSession};
 
 /// A front of a journal reads as just the records that are whole in it.
@@ -32,13 +32,14 @@ pub fn what_is_read_may_be_opened()
 /// Whatever an end leaves of a store, by a kill or a loss of power, is read as the session that was kept, or as one that goes on
 /// from it.
 pub fn an_end_loses_nothing()
-    ensures { (id bytes : List ℕ) (safe : ℕ) (keeper : KeeperState) (state : PlainStored) (left : List ℕ) →
-        Keeps id (Some bytes) safe keeper state → AreBytes left → MayBeTorn (Some bytes) safe left → GoesOnFrom id state left }
+    ensures { (id bytes : List ℕ) (safe : ℕ) (state : PlainStored) (left : List ℕ) →
+        Keeps id (Some bytes) safe state → AreBytes left → MayBeTorn (Some bytes) safe left → GoesOnFrom id state left }
 {}
 
 /// A store whose safe bytes are the header alone keeps the session that has just been founded.
 pub fn a_header_keeps_the_first_session()
-    ensures { (id : List ℕ) → Keeps id (Some (header id)) (length (header id)) (first_keeper id) founded }
+    ensures kept { (id : List ℕ) → Keeps id (Some (header id)) (length (header id)) founded }
+    ensures written { (id : List ℕ) → Writes id (Some (header id)) (length (header id)) (first_keeper id) founded }
 {}
 
 /// What a journal is founded with is read as the session that it was made from.

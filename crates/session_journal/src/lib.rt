@@ -12,7 +12,7 @@ mod records;
 
 pub use change::{Change, LentChange};
 pub use founding::{Draft, founding_of, header_of};
-pub use keeper::{Journal, KeepFault, MOST_JOURNAL, Unopened};
+pub use keeper::{Journal, KeepFault, MOST_JOURNAL, Unopened, Unsynced};
 pub use laws::{
     a_founding_is_read, a_header_keeps_the_first_session, an_end_loses_nothing,
     front_reads_whole_records, own_records_are_read_first, what_is_read_is_spelled,

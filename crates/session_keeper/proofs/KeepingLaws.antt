@@ -1,7 +1,8 @@
 -- The journal's session goes on as the session does.
-use Rattle.std.proofs.Common.{◌≡◌, ◌⊎◌, inl, inr, ℕ, ◌+◌, ◌^◌, ◌≤◌, ◌<◌, max, min, nat_le, nat_lt, Bool, true, false, cond, ◌&&◌, List, [], ◌∷◌, ◌++◌, length, Option, Some, None, refl, sym, ap, ◌∙◌, subst, arith}
+use Rattle.std.proofs.Common.{◌≡◌, inl, inr, ℕ, ◌+◌, ◌≤◌, ◌<◌, max, nat_le, nat_lt, Bool, true, false, cond, ◌&&◌, List, length, Result, Ok, Err, OnOk, OnErr, refl, sym, ap, ◌∙◌, subst, arith}
 use Rattle.std.proofs.lemmas.Bool.Decides.{nat_tests}
 use Rattle.std.proofs.lemmas.List.Sums.{length-filter, count_by-le-length}
+use Rattle.tea_io.specs.Told.{Rose}
 use Rattle.tea_base.specs.declared.entry.Entry.{Entry}
 use Rattle.tea_base.specs.declared.entry.What.{What}
 use Rattle.tea_base.specs.declared.entry.What.TheVariants as what
@@ -16,15 +17,15 @@ use Rattle.session_log.proofs.LegalityLaws.{may_follow-Decides}
 use Rattle.session_journal.specs.declared.change.Change.{Change}
 use Rattle.session_journal.specs.declared.change.Change.TheVariants.{Came, Reached, Kept}
 use Rattle.session_journal.specs.declared.keeper.Journal.{Journal}
-use Rattle.session_journal.specs.Changes.{IsTypedChange}
-use Rattle.session_journal.specs.State.{after_change, has_room, may_add, may_come}
+use Rattle.session_journal.specs.State.{after_change, has_room, may_come}
 use Rattle.session_journal.specs.Heads.{payload_of, record_len}
 use Rattle.session_journal.specs.Journal.{most_journal}
-use Rattle.session_journal.specs.Keeper.{IsKeptBy, lease, reached_to}
+use Rattle.session_journal.specs.Keeper.{lease, reached_to}
 use Rattle.session_journal.proofs.HeadLaws.{body_len}
 use Rattle.reflector_core.specs.PlainSession.{PlainSession, IsSoundSession}
 use Rattle.reflector_core.specs.Stored.{session_of}
-use Rattle.reflector_core.specs.Keeping.{with_entry, with_snapshot}
+use Rattle.reflector_core.specs.Keeping.{HoldsSnapshot, HoldsStill, KeepCause, ShutsByFault, with_entry, with_snapshot}
+use Rattle.reflector_core.specs.declared.keeper.Unkept.{Unkept}
 use Rattle.session_keeper.specs.Keeping.{is_nearly_full}
 
 tested_lt : (a b : ℕ) → a < b → nat_lt a b ≡ true
@@ -108,3 +109,40 @@ full_for_tick len time full = nearly_full len (Reached time) (omega arith) full
 
 pub full_still : {S : Type 0} (old new : Journal S) → new ≡ old → is_nearly_full old.len ≡ true → is_nearly_full new.len ≡ true
 full_still old new same full = subst (λ (journal : Journal _). is_nearly_full journal.len ≡ true) (sym same) full
+
+-- ---- one call after another
+
+-- a snapshot was written, and then all was settled
+pub snapshot_then : {T E : Type 0} (result : Result T E) (before mid after : PlainSession → Type 0) (time : ℕ) (bytes : List ℕ) → HoldsSnapshot before mid time bytes → OnOk result (HoldsStill mid after) → OnOk result (HoldsSnapshot before after time bytes)
+snapshot_then (Ok value) before mid after time bytes put still =
+    λ held is sound past. elim (put held is sound past) [ inl without ↦ inl (still held without) | inr with_it ↦ inr (still (with_snapshot held time bytes) with_it) ]
+snapshot_then (Err fault) before mid after time bytes put still = tt
+
+pub held_then : {T E : Type 0} (result : Result T E) (before mid after : PlainSession → Type 0) → HoldsStill before mid → OnErr result (HoldsStill mid after) → OnErr result (HoldsStill before after)
+held_then (Ok value) before mid after first still = tt
+held_then (Err fault) before mid after first still = λ held is. still held (first held is)
+
+on_ok : {T E : Type 0} (result : Result T E) (P : Type 0) → P → OnOk result P
+on_ok (Ok value) P fact = fact
+on_ok (Err fault) P fact = tt
+
+rose_later : (f g h : ℕ) → Rose f g → g ≤ h → Rose f h
+rose_later f g h rose le = omega (arith, rose, le)
+
+rose_behind : (f g h : ℕ) → f ≤ g → Rose g h → Rose f h
+rose_behind f g h le rose = omega (arith, le, rose)
+
+shuts_then : (shut_old shut_mid shut_new : Type 0) (f g h : ℕ) → ShutsByFault shut_old shut_mid f g → ShutsByFault shut_mid shut_new g h → ShutsByFault shut_old shut_new f h
+shuts_then shut_old shut_mid shut_new f g h first next = record {
+  later = omega (arith, first.later, next.later);
+  stays = λ is. next.stays (first.stays is);
+  shuts = λ is.
+      elim (next.shuts is) [
+        | inl mid ↦ elim (first.shuts mid) [ inl old ↦ inl old | inr rose ↦ inr (rose_later f g h rose next.later) ]
+        | inr rose ↦ inr (rose_behind f g h first.later rose)
+      ];
+}
+
+pub cause_then : {T : Type 0} (result : Result T Unkept) (shut_old shut_mid shut_new : Type 0) (f g h : ℕ) → (shut_old → ⊥) → ShutsByFault shut_old shut_mid f g → KeepCause shut_mid shut_new g h result → KeepCause shut_old shut_new f h result
+cause_then result shut_old shut_mid shut_new f g h free first next =
+    record { kept = on_ok result (shut_old → ⊥) free; unkept = next.unkept; shuts = shuts_then shut_old shut_mid shut_new f g h first next.shuts }

@@ -1,11 +1,11 @@
 -- What the journal of a session says as its keeper.
-use Rattle.std.specs.Prelude.{◌≡◌, ◌⊎◌, ℕ, ◌+◌, nat_lt, Bool, true, ◌&&◌, List, Option, if◌then◌else◌}
+use Rattle.std.specs.Prelude.{◌≡◌, ◌⊎◌, ℕ, ◌+◌, nat_lt, Bool, true, not, ◌&&◌, List, Option, if◌then◌else◌}
 use Rattle.tea_base.specs.Limits.{most_payload}
 use Rattle.session_log.specs.Stored.{PlainStored}
 use Rattle.reflector_core.specs.PlainSession.{PlainSession}
 use Rattle.reflector_core.specs.Stored.{session_of}
 use Rattle.session_journal.specs.Journal.{most_journal}
-use Rattle.session_journal.specs.Keeper.{IsKeptBy}
+use Rattle.session_journal.specs.Keeper.{IsKeptBy, IsWrittenBy}
 use Rattle.session_keeper.specs.declared.keeper.JournalKeeper.{JournalKeeper}
 
 -- the safe bytes are the journal of this session
@@ -13,6 +13,16 @@ pub record IsJournalOf {S : Type 0} (told : S → Option (List ℕ)) (safe : S �
   pub state : PlainStored
   pub is_kept : IsKeptBy told safe keeper.id.0 keeper.journal state
   pub same : session_of state ≡ s
+
+-- all bytes, safe or not, are the journal of this session, unless a call has failed
+pub record WritesJournalOf {S : Type 0} (told : S → Option (List ℕ)) (safe : S → ℕ) (keeper : JournalKeeper S) (s : PlainSession) : Type 0 where
+  pub state : PlainStored
+  pub is_written : IsWrittenBy told safe keeper.id.0 keeper.journal state
+  pub same : session_of state ≡ s
+
+-- all bytes that were written are safe, no call has failed, and the journal was not full
+abbrev pub is_settled : {S : Type 0} → JournalKeeper S → Bool
+is_settled keeper = not keeper.full && (not keeper.journal.shut && not keeper.journal.dirty)
 
 -- a call of the store has failed, or the journal was full
 abbrev pub IsShut : {S : Type 0} → JournalKeeper S → Type 0

@@ -1,31 +1,25 @@
 -- From what the steps tell to what callers are told.
-use Rattle.std.proofs.Common.{◌≡◌, ℕ, ◌+◌, ◌%◌, ◌^◌, ◌≤◌, ◌<◌, true, List, [], ◌∷◌, ◌++◌, length, slice_index, Some, Result, Ok, Err, MatchResult, sym, refl, ap, ◌∙◌, subst, arith, length-append}
-use mathlib.Core.Option.{none}
-use Rattle.atomic_table.specs.Table.{Allows, step}
+use Rattle.std.proofs.Common.{◌≡◌, ℕ, ◌+◌, ◌≤◌, ◌<◌, true, List, [], ◌∷◌, ◌++◌, length, slice_index, Result, Ok, Err, MatchResult, sym, refl, ap, ◌∙◌, subst, arith, length-append}
 use Rattle.atomic_table.specs.Seated.{TableId}
 use Rattle.tea_base.specs.declared.entry.SessionId.{SessionId}
 use Rattle.reflector_core.specs.declared.request.Request.{Request}
 use Rattle.reflector_core.specs.declared.request.Reply.{Reply}
-use Rattle.reflector_core.specs.Keeping.{KeepsPace, MayChange, HasCause}
+use Rattle.reflector_core.specs.Keeping.{MayChange}
 use Rattle.reflector_core.specs.declared.keeper.CallFault.{CallFault}
 use Rattle.reflector_core.specs.declared.keeper.CallFault.TheVariants as fault
-use Rattle.reflector_core.specs.Answer.{SessionOutcome, answer, with_reply, MayWantMemory}
-use Rattle.reflector_core.specs.PlainSession.{PlainSession, IsSoundSession}
+use Rattle.reflector_core.specs.Answer.{MayWantMemory}
+use Rattle.reflector_core.specs.PlainSession.{PlainSession}
 use Rattle.session_lock.specs.declared.knowledge.Item.{Item}
 use Rattle.session_lock.specs.declared.knowledge.Item.TheVariants.{Did, Void, Unkept}
 use Rattle.session_lock.specs.declared.knowledge.Knowledge.{Knowledge}
-use Rattle.session_lock.specs.declared.held.KeptSession.{KeptSession}
-use Rattle.session_lock.specs.History.{caller_of, after_item, play_from, reply_from, has, calls_of, Saw, is_unkept}
-use Rattle.session_lock.specs.Rules.{Locks, HoldsOnce, holds_number, knows, no_part, longer}
-use Rattle.session_lock.specs.Steps.{M, HasCounted, Finishes, AnswersRequest, Misses, Fails, HasTurn, Works, with_ticket, with_turn, join_left, split_left, split_right}
+use Rattle.session_lock.specs.History.{caller_of, play_from, has, calls_of, Saw}
+use Rattle.session_lock.specs.Rules.{HoldsOnce, holds_number, knows, no_part, longer}
+use Rattle.session_lock.specs.Steps.{M, HasCounted, AnswersRequest, Misses, Fails, join_left, split_left, split_right, IsIdle, HasMade}
 use Rattle.session_lock.specs.Passes.{SharedState, shared_state, PassState, pass_state, Grew, Replied, Voided, NotKept, Missed, Caught, Given, Merged, HeldOnce, UsedNoSpare, times_held, caller, numbers_held}
 use Rattle.session_lock.proofs.Histories.{saw_own, saw_each, saw_call, has_own}
 use Rattle.session_lock.specs.Numbers.{in_ranges, count_of, take_numbers, first_of_ranges}
 use Rattle.session_lock.proofs.Ranges.{cut_count, taken_count, count_append, times_append, in_ranges_append}
 use Rattle.session_lock.proofs.Shares.{same_numbers, first_is_spare, left_size, right_size}
-use Rattle.session_lock.proofs.StepLaws.{finishes_me}
-use Rattle.session_lock.specs.Keeping.{KeepsPlay}
-use Rattle.session_lock.proofs.KeepingLaws.{keeps_item}
 
 -- a pass of a shared session has a seat of its table
 pub fits : {T K : Type 0} (z y : TableId) (v : Knowledge) (key : SessionId × T × K) (faults : ℕ) (p : PassState) (shared : SharedState T) → pass_state z v ≡ p → p.session ≡ shared.session → shared_state y key faults ≡ shared → z ≡ y
@@ -93,48 +87,6 @@ pub call_kept : (Trusted : PlainSession → Type 0) (shut : Type 0) (r : Result 
 call_kept Trusted shut (Ok reply) p q request h = same_but_seen p q _ _ h.grew
 call_kept Trusted shut (Err fault.WantOfMemory) p q request h = same_but_seen p q _ _ h.grew
 call_kept Trusted shut (Err fault.Unkept) p q request h = same_but_seen p q _ _ h.grew
-
--- What the seat knows after the work: it holds the ticket, has seen the whole history, and has the session in hand. The rule
--- and what is told speak of one count of faults.
-module _ {K : Type 0} (holds : K → PlainSession → Type 0) (shut : K → Type 0) (faults : K → ℕ) (first told_first : ℕ) (same_first : first ≡ told_first) (Trusted Told : PlainSession → Type 0) (tells : (s : PlainSession) → Trusted s → Told s) (slots id : ℕ) (m₀ m₁ m₂ m₃ : M K) (ticket : ℕ) (request : Request)
-    (result : Result Reply CallFault) (c : ℕ) (others : List ℕ) (one : slots ≡ 1) (no_kept : m₀.0.kept ≡ no_part) (no_other : m₀.0.other ≡ no_part) (mine : m₀.0.callers ≡ c ∷ others) (e₁ : m₁ ≡ (with_ticket m₀.0 ticket, m₀.1))
-    (turn : HasTurn Told (KeepsPlay holds shut faults told_first) m₁ ticket m₂) (work : Works holds shut faults m₂ request result m₃) where
-  abbrev pub the_play : PlainSession
-  the_play = play_from m₁.0.opening turn.history
-
-  pub was_taken : work.before ≡ turn.taken
-  was_taken = let e : (0, work.before) ∷ [] ≡ (0, turn.taken) ∷ [] = sym work.had ∙ ap (λ (m : M K). m.1) turn.is in ap (λ (l : List (ℕ × KeptSession K)). (Rattle.std.proofs.Common.get_or l 0 (0, turn.taken)).1) e
-
-  abbrev pub the_session : work.before.session ≡ the_play
-  the_session = ap (λ (k : KeptSession K). k.session) was_taken ∙ turn.plays
-
-  kept_pace : (x : Item) → work.after.session ≡ after_item the_play x → (is_unkept x ≡ true → shut work.after.keeper) → KeepsPlay holds shut faults first m₁.0.opening (turn.history ++ x ∷ []) work.after.keeper
-  kept_pace x is why =
-      let before : KeepsPlay holds shut faults first m₁.0.opening turn.history work.before.keeper =
-      subst (λ (t : ℕ × K). KeepsPlay holds shut faults t.0 m₁.0.opening turn.history t.1) (λ i. (sym same_first i, (sym was_taken i).keeper)) turn.keeps in
-      let pace : KeepsPace holds shut faults work.before.keeper work.after.keeper the_play (after_item the_play x) =
-      subst (λ (t : PlainSession × PlainSession). KeepsPace holds shut faults work.before.keeper work.after.keeper t.0 t.1) (λ i. (the_session i, is i)) work.pace in
-      keeps_item holds shut faults first m₁.0.opening turn.history x work.before.keeper work.after.keeper before pace why
-
-  ends : (item : ℕ → Item) → caller_of (item c) ≡ c → work.after.session ≡ after_item the_play (item c) → (is_unkept (item c) ≡ true → shut work.after.keeper)
-      → (IsSoundSession the_play → IsSoundSession (after_item the_play (item c)) → Trusted the_play → Trusted (after_item the_play (item c)))
-      → Allows (Locks Trusted (KeepsPlay holds shut faults first)) slots id m₃ 1 (λ n. (n + 1) % 2 ^ 64) (Finishes Told item (step slots 1 1 0 none) m₃)
-  ends item by is why stays =
-      let told : m₃ ≡ (with_turn m₁.0 turn.history, (0, work.after) ∷ []) = work.has ∙ ap (λ (m : M K). (m.0, (0, work.after) ∷ [])) turn.is in
-      subst (λ (m : M K). Allows (Locks Trusted (KeepsPlay holds shut faults first)) slots id m 1 (λ n. (n + 1) % 2 ^ 64) (Finishes Told item (step slots 1 1 0 none) m)) (sym told)
-      (finishes_me Trusted (KeepsPlay holds shut faults first) Told tells slots id (with_turn m₁.0 turn.history, (0, work.after) ∷ []) work.after item c others one refl (ap (λ (m : M K). m.0.callers) e₁ ∙ mine) by refl (ap (λ (m : M K). m.0.ticket) e₁ ∙ ap (λ (n : ℕ). Some n) (sym turn.len))
-      (ap (λ (m : M K). m.0.kept) e₁ ∙ no_kept) (ap (λ (m : M K). m.0.other) e₁ ∙ no_other) is (kept_pace (item c) is why) work.sound stays)
-
-  pub ends_did : (reply : Reply) → with_reply work.after.session reply ≡ answer work.before.session request → (IsSoundSession the_play → IsSoundSession (answer the_play request).session → Trusted the_play → Trusted (answer the_play request).session)
-      → Allows (Locks Trusted (KeepsPlay holds shut faults first)) slots id m₃ 1 (λ n. (n + 1) % 2 ^ 64) (Finishes Told (λ caller. Did caller request) (step slots 1 1 0 none) m₃)
-  ends_did reply is stays =
-      ends (λ caller. Did caller request) refl (ap (λ (o : SessionOutcome). o.session) is ∙ ap (λ (s : PlainSession). (answer s request).session) the_session) (λ e. absurd cc) stays
-
-  pub ends_void : work.after.session ≡ work.before.session → Allows (Locks Trusted (KeepsPlay holds shut faults first)) slots id m₃ 1 (λ n. (n + 1) % 2 ^ 64) (Finishes Told (λ caller. Void caller) (step slots 1 1 0 none) m₃)
-  ends_void is = ends (λ caller. Void caller) refl (is ∙ the_session) (λ e. absurd cc) (λ _ _ h. h)
-
-  pub ends_unkept : work.after.session ≡ work.before.session → shut work.after.keeper → Allows (Locks Trusted (KeepsPlay holds shut faults first)) slots id m₃ 1 (λ n. (n + 1) % 2 ^ 64) (Finishes Told (λ caller. Unkept caller) (step slots 1 1 0 none) m₃)
-  ends_unkept is why = ends (λ caller. Unkept caller) refl (is ∙ the_session) (λ _. why) (λ _ _ h. h)
 
 abbrev Settled : {K : Type 0} → M K → M K → Type 0
 Settled m m' = (m' ≡ (record m.0 { kept = no_part; other = no_part }, m.1)) × Saw m.0.kept.callers m.0.kept.seen m.0.seen × Saw m.0.other.callers m.0.other.seen m.0.seen × HoldsOnce m.0
@@ -222,3 +174,30 @@ left_count z z' v w p n view is enough =
     let f = taken_count (n + 1) v.spare (omega (arith, enough)) in
     let h = ap (λ (k : PassState). count_of k.spare) view in
     (omega (arith, a, b, c), omega (arith, d, e, f, h))
+
+-- ---- a pass rests between its calls
+
+pub idle_made : {K : Type 0} (Told : PlainSession → Type 0) (shut : Type 0) (v : Knowledge) (request : Request) (result : Result Reply CallFault) (m : M K) → HasMade Told shut v request result m → IsIdle m
+idle_made Told shut v request (Ok reply) m (history, c, others, mine, saw, is, answers, told) =
+    subst (λ (n : M _). IsIdle n) (sym is) (record { empty = refl; ticket = refl; holding = refl; pending = refl; lost = refl; hopes = refl; kept = refl; other = refl; first = c; others = others; callers = mine })
+idle_made Told shut v request (Err fault.WantOfMemory) m (history, c, others, mine, saw, is, due) =
+    subst (λ (n : M _). IsIdle n) (sym is) (record { empty = refl; ticket = refl; holding = refl; pending = refl; lost = refl; hopes = refl; kept = refl; other = refl; first = c; others = others; callers = mine })
+idle_made Told shut v request (Err fault.Unkept) m (history, c, others, mine, saw, is, due) =
+    subst (λ (n : M _). IsIdle n) (sym is) (record { empty = refl; ticket = refl; holding = refl; pending = refl; lost = refl; hopes = refl; kept = refl; other = refl; first = c; others = others; callers = mine })
+
+-- it has seen more
+pub idle_counted : {K : Type 0} (Trusted : PlainSession → Type 0) (m m' : M K) (found : ℕ) → IsIdle m → HasCounted Trusted m found m' → IsIdle m'
+idle_counted Trusted m m' found k (history, long, saw, is, plays) =
+    subst (λ (n : M _). IsIdle n) (sym is)
+    (record { empty = k.empty; ticket = k.ticket; holding = k.holding; pending = k.pending; lost = k.lost; hopes = k.hopes; kept = k.kept; other = k.other; first = k.first; others = k.others; callers = k.callers })
+
+-- it has given numbers, or was made of them
+pub idle_left : {K : Type 0} (m m' : M K) (n : ℕ) → IsIdle m → m' ≡ (split_left n m.0, m.1) → IsIdle m'
+idle_left m m' n k is =
+    subst (λ (z : M _). IsIdle z) (sym is)
+    (record { empty = k.empty; ticket = k.ticket; holding = k.holding; pending = k.pending; lost = k.lost; hopes = k.hopes; kept = k.kept; other = k.other; first = k.first; others = k.others; callers = k.callers })
+
+pub idle_right : {K : Type 0} (m : M K) (v : Knowledge) (n : ℕ) → m ≡ (split_right n v, []) → IsIdle m
+idle_right m v n is =
+    subst (λ (z : M _). IsIdle z) (sym is)
+    (record { empty = refl; ticket = refl; holding = refl; pending = refl; lost = refl; hopes = refl; kept = refl; other = refl; first = first_of_ranges (take_numbers n v.spare); others = []; callers = refl })

@@ -152,7 +152,7 @@ has_own n others = rw (eq-eqb n n refl) refl
 pub saw_call : (cs : List ℕ) (seen history : List Item) (x : Item) → Saw cs seen history → has (caller_of x) cs ≡ true → calls_of cs (history ++ x ∷ []) ≡ calls_of cs seen ++ x ∷ []
 saw_call cs seen history x p mine = calls_append cs history (x ∷ []) ∙ (ap (λ (b : Bool). calls_of cs history ++ (if b then x ∷ [] else [])) mine ∙ ap (λ (l : List Item). l ++ x ∷ []) (saw_own cs seen history p))
 
-calls_none : (xs : List Item) → calls_of [] xs ≡ []
+pub calls_none : (xs : List Item) → calls_of [] xs ≡ []
 calls_none [] = refl
 calls_none (x ∷ xs) = calls_none xs
 

@@ -9,3 +9,4 @@ pub mod Closing
 pub mod Contracts
 pub mod Working
 pub mod Crossings
+pub mod Turning

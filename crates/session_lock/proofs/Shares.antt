@@ -11,9 +11,10 @@ use Rattle.reflector_core.specs.PlainSession.{PlainSession}
 use Rattle.session_lock.specs.declared.knowledge.Item.{Item}
 use Rattle.session_lock.specs.declared.knowledge.Range.{Range}
 use Rattle.session_lock.specs.declared.knowledge.Knowledge.{Knowledge}
+use Rattle.session_lock.specs.declared.held.KeptSession.{KeptSession}
 use Rattle.session_lock.specs.History.{calls_of, Saw}
 use Rattle.session_lock.specs.Numbers.{in_ranges, count_of, take_numbers, drop_numbers, first_of_ranges}
-use Rattle.session_lock.specs.Rules.{views_total, is_ticket, has_ticket, one_if, is_holding, calls_as, holds_number, number_count, Every, HoldsInTurn, SpentHoldsNothing, PartsFit, KnowsOpening, no_part, IsSeenWhole, Locks}
+use Rattle.session_lock.specs.Rules.{views_total, is_ticket, has_ticket, one_if, one_if_some, is_holding, is_hoping, calls_as, holds_number, number_count, Every, HoldsInTurn, MayHope, SpentHoldsNothing, PartsFit, KnowsOpening, no_part, IsSeenWhole, Locks}
 use Rattle.session_lock.specs.Steps.{split_left, split_right, join_left, join_right}
 use Rattle.session_lock.proofs.Totals.{total_set, total_snoc, every_set, every_snoc}
 use Rattle.session_lock.proofs.Ranges.{cut, cut_count, taken_count, first_out, in_ranges_append, count_append, times_append}
@@ -51,22 +52,26 @@ module _ (n : ℕ) (v : Knowledge) (n_some : 0 < n) (enough : n ≤ count_of v.s
   pub left_size : number_count (split_left n v) + n ≡ number_count v
   left_size = let a = cut_count n v.spare in let c = taken_count n v.spare enough in omega (arith, a, c)
 
-  pub splits : {K : Type 0} (Trusted : PlainSession → Type 0) (Keeps : PlainSession → List Item → K → Type 0) (id : ℕ) → Splits (Locks Trusted Keeps) id v (split_left n v) (split_right n v)
-  splits {K} Trusted Keeps id s (history, k) at =
+  pub splits : {K : Type 0} (Trusted : PlainSession → Type 0) (Keeps : PlainSession → List Item → List Item → Bool → KeptSession K → Type 0) (id : ℕ) → Splits (Locks Trusted Keeps) id v (split_left n v) (split_right n v)
+  splits {K} Trusted Keeps id s (history, pending, lost, k) at =
       let l : Knowledge = split_left n v in
       let r : Knowledge = split_right n v in
       let first : ℕ = first_of_ranges the_taken in
       let both : (f : Knowledge → ℕ) → views_total f (set s.views id l ++ r ∷ []) + f v ≡ views_total f s.views + (f l + f r) = λ f. (let a = total_set f s.views id v l at in let b = total_snoc f (set s.views id l) r in omega (arith, a, b)) in
       let caller_is : 0 < length v.callers = some_of v.callers (λ e. (let t = k.spent id v at e in let gone : count_of v.spare ≡ 0 = ap count_of t.0 in omega (arith, gone, n_some, enough))) in
-      let unused : views_total (calls_as first) s.views ≡ 0 = no_caller Trusted Keeps history s k id v first at first_is_spare in (
+      let unused : views_total (calls_as first) s.views ≡ 0 = no_caller Trusted Keeps history pending lost s k id v first at first_is_spare in (
         history,
+        pending,
+        lost,
         record {
           opening = k.opening;
           opened = every_snoc (KnowsOpening k.opening) (set s.views id l) r (every_set (KnowsOpening k.opening) s.views id l k.opened (k.opened id v at)) (λ _. k.opened id v at caller_is);
           next = k.next;
+          serving = k.serving;
           words = k.words;
           room = k.room;
           order = k.order;
+          count = (let few = k.count in let a = both is_holding in omega (arith, few, a));
           tickets = λ t. (let a = both (has_ticket t) in let b = k.tickets t in omega (arith, a, b));
           numbers = λ x. (let a = both (holds_number x) in let b = same_numbers x in let c = k.numbers x in omega (arith, a, b, c));
           whole = (let a = both number_count in let b = k.whole in omega (arith, a, b, right_size, left_size));
@@ -74,11 +79,16 @@ module _ (n : ℕ) (v : Knowledge) (n_some : 0 < n) (enough : n ≤ count_of v.s
           parts = every_snoc (PartsFit history) (set s.views id l) r (every_set (PartsFit history) s.views id l k.parts (k.parts id v at)) (part_none history r no_part refl, part_none history r no_part refl);
           told = (let t = told_set history s.views id v l at refl (λ e. e) k.told in (t.0, t.1, at_longer (set s.views id l) (r ∷ []) t.0 t.1 t.2, t.3, t.4));
           called = λ x none_of. k.called x (let a = both (calls_as x) in omega (arith, a, none_of));
-          turn = every_snoc (HoldsInTurn (length history)) (set s.views id l) r (every_set (HoldsInTurn (length history)) s.views id l k.turn (k.turn id v at)) (λ f. cc);
+          turn = every_snoc (HoldsInTurn k.serving history pending lost) (set s.views id l) r
+              (every_set (HoldsInTurn k.serving history pending lost) s.views id l k.turn
+              (λ f. (let t = k.turn id v at f in record { ticket = t.ticket; caller = t.caller; seen = t.seen; pending_is = t.pending_is; lost_is = t.lost_is }))) (λ f. absurd cc);
           spent = every_snoc SpentHoldsNothing (set s.views id l) r (every_set SpentHoldsNothing s.views id l k.spent (λ e. (let t = k.spent id v at e in let gone : count_of v.spare ≡ 0 = ap count_of t.0 in absurd (omega (arith, gone, n_some, enough)))))
               (has_callers r (omega arith));
+          hopes = every_snoc (λ u. MayHope history pending lost u.hopes) (set s.views id l) r (every_set (λ u. MayHope history pending lost u.hopes) s.views id l k.hopes (k.hopes id v at)) tt;
+          waits = (let most = k.waits in let a = both is_hoping in omega (arith, most, a));
           trusted = k.trusted;
           sound = k.sound;
+          well = k.well;
           home = λ nobody. k.home (let a = both is_holding in omega (arith, a, nobody));
           away = λ one. k.away (let a = both is_holding in omega (arith, a, one));
         },
@@ -126,8 +136,8 @@ total_join : (f : Knowledge → ℕ) (views : List Knowledge) (id other : ℕ) (
     → views_total f (set (set views id both) other gone) ≡ views_total f views
 total_join f views id other v w both gone at also same = let a = total_set f views id v both at in let b = total_set f (set views id both) other w gone also in omega (arith, a, b, same)
 
-pub merges : {K : Type 0} (Trusted : PlainSession → Type 0) (Keeps : PlainSession → List Item → K → Type 0) (id other : ℕ) (v w : Knowledge) → v.ticket ≡ None → v.holding ≡ false → w.ticket ≡ None → w.holding ≡ false → 0 < length v.callers → Joins (Locks Trusted Keeps) id v other w (join_left v w) join_right
-merges {K} Trusted Keeps id other v w idle free idle' free' caller_is s (history, k) at ne also =
+pub merges : {K : Type 0} (Trusted : PlainSession → Type 0) (Keeps : PlainSession → List Item → List Item → Bool → KeptSession K → Type 0) (id other : ℕ) (v w : Knowledge) → v.ticket ≡ None → v.holding ≡ false → w.ticket ≡ None → w.holding ≡ false → w.hopes ≡ None → 0 < length v.callers → Joins (Locks Trusted Keeps) id v other w (join_left v w) join_right
+merges {K} Trusted Keeps id other v w idle free idle' free' no_hope' caller_is s (history, pending, lost, k) at ne also =
     let m : Knowledge = join_left v w in
     let views : List Knowledge = set (set s.views id m) other join_right in
     let atw : get_elem? s.views other ≡ some w = sym (set_else s.views id other m ne) ∙ also in
@@ -141,13 +151,17 @@ merges {K} Trusted Keeps id other v w idle free idle' free' caller_is s (history
     let some_caller : 0 < length m.callers = (let a = length-append v.callers w.callers in omega (arith, a, caller_is)) in
     let every : (P : Knowledge → Type 0) → Every P s.views → P m → P join_right → Every P views = λ P h p q. every_set P (set s.views id m) other join_right (every_set P s.views id m h p) q in (
       history,
+      pending,
+      lost,
       record {
         opening = k.opening;
         opened = every (KnowsOpening k.opening) k.opened (λ _. k.opened id v at caller_is) (λ none_of. absurd (omega (arith, none_of)));
         next = k.next;
+        serving = k.serving;
         words = k.words;
         room = k.room;
         order = k.order;
+        count = (let few = k.count in omega (arith, few, same_holding));
         tickets = λ t. join (has_ticket t) (let a : has_ticket t w ≡ 0 = ap (is_ticket t) idle' in omega (arith, a)) ∙ k.tickets t;
         numbers = λ n. join (holds_number n) (let a = times_append n v.callers w.callers in let b = in_ranges_append n v.spare w.spare in omega (arith, a, b)) ∙ k.numbers n;
         whole = join number_count (let a = length-append v.callers w.callers in let b = count_append v.spare w.spare in omega (arith, a, b)) ∙ k.whole;
@@ -159,10 +173,13 @@ merges {K} Trusted Keeps id other v w idle free idle' free' caller_is s (history
             (part_none history join_right no_part refl, part_none history join_right no_part refl);
         told = told_merge history s.views id other v w at atw ne saw saw' caller_is k.told;
         called = λ n none_of. k.called n (sym (join (calls_as n) (let a = times_append n v.callers w.callers in omega (arith, a))) ∙ none_of);
-        turn = every (HoldsInTurn (length history)) k.turn (λ h. absurd (let e : true ≡ false = sym h ∙ free in cc (e))) (λ h. absurd (cc (h)));
-        spent = every SpentHoldsNothing k.spent (has_callers m some_caller) (λ _. (refl, refl, refl));
+        turn = every (HoldsInTurn k.serving history pending lost) k.turn (λ h. absurd (let e : true ≡ false = sym h ∙ free in cc (e))) (λ h. absurd (cc (h)));
+        spent = every SpentHoldsNothing k.spent (has_callers m some_caller) (λ _. (refl, refl, refl, refl));
+        hopes = every (λ u. MayHope history pending lost u.hopes) k.hopes (k.hopes id v at) tt;
+        waits = (let most = k.waits in let same = join is_hoping (let a : is_hoping w ≡ 0 = ap one_if_some no_hope' in omega (arith, a)) in omega (arith, most, same));
         trusted = k.trusted;
         sound = k.sound;
+        well = k.well;
         home = λ nobody. k.home (sym same_holding ∙ nobody);
         away = λ one. k.away (sym same_holding ∙ one);
       },

@@ -1,7 +1,9 @@
 -- What is kept stays allowed.
-use Rattle.std.proofs.Common.{◌≡◌, ℕ, [], ◌∷◌, List, Option, Some, None, IfSome, sym, refl, ap, ◌∙◌, subst}
+use Rattle.std.proofs.Common.{◌≡◌, ℕ, [], ◌∷◌, List, Option, Some, None, IfSome, Result, Err, sym, refl, ap, ◌∙◌, subst}
 use Rattle.tea_base.specs.declared.entry.SessionId.{SessionId}
 use Rattle.wire_frames.specs.declared.start.Base.{Base}
+use Rattle.reflector_core.specs.declared.keeper.CallFault.{CallFault}
+use Rattle.reflector_core.specs.declared.request.Reply.{Reply}
 use Rattle.reflector_core.specs.declared.request.Request.{Request}
 use Rattle.reflector_core.specs.declared.request.Request.TheVariants.{Join, Send, Tick, Leave, Offer, Pull}
 use Rattle.reflector_core.specs.PlainSession.{PlainSession, IsSoundSession}
@@ -9,6 +11,9 @@ use Rattle.reflector_core.specs.Answer.{answer}
 use Rattle.session_lock.specs.declared.knowledge.Item.{Item}
 use Rattle.session_lock.specs.declared.knowledge.Item.TheVariants.{Did, Void, Unkept}
 use Rattle.atomic_table.specs.Seated.{TableId}
+use Rattle.session_lock.specs.declared.knowledge.Knowledge.{Knowledge}
+use Rattle.session_lock.specs.Keeping.{KeepsHoped}
+use Rattle.session_lock.specs.Steps.{M, MayCommit, MayPutOff, MayRelease}
 use Rattle.session_lock.specs.Passes.{SharedState, shared_state}
 use Rattle.session_lock.specs.Trusts.{Allowing, TrustAllows, IsTrusted, Stays, MayBeAsked}
 use Rattle.session_lock.specs.History.{play_from, Saw, IsSoundThrough}
@@ -67,3 +72,20 @@ module _ {T K : Type 0} (allows : Allowing T) (session : TableId) (key : Session
   -- the count of faults that the lock began with
   pub first_inside : (first : ℕ) → seen.faults ≡ first → faults ≡ first
   first_inside first e = ap (λ (v : SharedState T). v.faults) is ∙ e
+
+  -- so do an item that may come, and one that may be put off
+  pub commit_inside : (v : Knowledge) (item : ℕ → Item) → MayCommit (IsTrusted allows seen.trust seen.id) v item → MayCommit (IsTrusted allows key.1 key.0) v item
+  commit_inside v item may = subst (λ (w : SharedState T). MayCommit (IsTrusted allows w.trust w.id) v item) (sym is) may
+
+  pub put_off_inside : {S : Type 0} (holds writes : S → PlainSession → Type 0) (shut : S → Type 0) (count : S → ℕ) (first : ℕ) (m : M S) (item : ℕ → Item) → seen.faults ≡ first → MayPutOff (IsTrusted allows seen.trust seen.id) (KeepsHoped holds writes shut count first) m item
+      → MayPutOff (IsTrusted allows key.1 key.0) (KeepsHoped holds writes shut count faults) m item
+  put_off_inside holds writes shut count first m item counted may =
+      subst (λ (n : ℕ). MayPutOff (IsTrusted allows key.1 key.0) (KeepsHoped holds writes shut count n) m item) (sym (first_inside first counted))
+      (subst (λ (w : SharedState T). MayPutOff (IsTrusted allows w.trust w.id) (KeepsHoped holds writes shut count first) m item) (sym is) may)
+
+  pub release_inside : {S : Type 0} (holds writes : S → PlainSession → Type 0) (shut : S → Type 0) (count : S → ℕ) (first : ℕ) (m : M S) → seen.faults ≡ first → MayRelease (KeepsHoped holds writes shut count first) m → MayRelease (KeepsHoped holds writes shut count faults) m
+  release_inside holds writes shut count first m counted may = subst (λ (n : ℕ). MayRelease (KeepsHoped holds writes shut count n) m) (sym (first_inside first counted)) may
+
+-- why a call has no answer
+pub is_err : (result : Result Reply CallFault) (why other : CallFault) → result ≡ Err why → why ≡ other → result ≡ Err other
+is_err result why other is same = let err : CallFault → Result Reply CallFault = λ f. Err f in is ∙ ap err same

@@ -1,8 +1,10 @@
 -- Histories: what callers did to a session, in one order.
-use Rattle.std.specs.Prelude.{◌≡◌, ℕ, Bool, true, false, ◌||◌, eqb, List, [], ◌∷◌, ◌++◌, if◌then◌else◌}
+use Rattle.std.specs.Prelude.{◌≡◌, ℕ, Bool, true, false, ◌||◌, eqb, List, [], ◌∷◌, ◌++◌, if◌then◌else◌, Result, Ok, Err}
 use Rattle.reflector_core.specs.PlainSession.{PlainSession, IsSoundSession}
 use Rattle.reflector_core.specs.Answer.{answer}
 use Rattle.reflector_core.specs.Play.{first_session}
+use Rattle.reflector_core.specs.declared.keeper.CallFault.{CallFault}
+use Rattle.reflector_core.specs.declared.keeper.CallFault.TheVariants as fault
 use Rattle.reflector_core.specs.declared.request.Request.{Request}
 use Rattle.reflector_core.specs.declared.request.Reply.{Reply}
 use Rattle.session_lock.specs.declared.knowledge.Item.{Item}
@@ -27,6 +29,16 @@ play_from session (x ∷ xs) = play_from (after_item session x) xs
 abbrev pub play : List Item → PlainSession
 play history = play_from first_session history
 
+-- the first items are a beginning of the others
+abbrev pub Begins : List Item → List Item → Type 0
+Begins xs ys = (rest : List Item) × (xs ++ rest ≡ ys)
+
+-- the item that a call adds
+abbrev pub item_of : ℕ → Request → Result Reply CallFault → Item
+item_of caller request (Ok reply) = Did caller request
+item_of caller request (Err fault.WantOfMemory) = Void caller
+item_of caller request (Err fault.Unkept) = Unkept caller
+
 -- the requests of the history, in order
 abbrev pub history_requests : List Item → List Request
 history_requests [] = []
@@ -38,6 +50,15 @@ history_requests (Unkept caller ∷ xs) = history_requests xs
 abbrev pub IsSoundThrough : PlainSession → List Item → Type 0
 IsSoundThrough session [] = IsSoundSession session
 IsSoundThrough session (x ∷ xs) = IsSoundSession session × IsSoundThrough (after_item session x) xs
+
+-- the session is sound and this is so of it, and so it is after each of the items
+abbrev pub GoesWell : (PlainSession → Type 0) → PlainSession → List Item → Type 0
+GoesWell P session [] = IsSoundSession session × P session
+GoesWell P session (x ∷ xs) = (IsSoundSession session × P session) × GoesWell P (after_item session x) xs
+
+-- after one item more the session is sound, and this is so of it if it was
+abbrev pub GoesWellWith : (PlainSession → Type 0) → PlainSession → Item → Type 0
+GoesWellWith P session x = IsSoundSession (after_item session x) × (IsSoundSession session → P session → P (after_item session x))
 
 abbrev pub is_unkept : Item → Bool
 is_unkept (Did caller request) = false

@@ -1,24 +1,25 @@
 //! The lock round the session, and its passes.
-ghost use Rattle.std.specs.Prelude.{◌≡◌, ℕ, ◌<◌, ◌+◌, [], ◌∷◌, length, true, false, None, IfOk, IfErr, IsOk, MatchResult};
+ghost use Rattle.std.specs.Prelude.{◌≡◌, ℕ, ◌<◌, ◌+◌, ◌-◌, ◌^◌, [], ◌∷◌, length, true, false, None, IfOk, IfErr, IsOk, MatchResult};
 ghost use Rattle.tea_base.specs.declared.entry.SessionId.{SessionId};
 ghost use Rattle.reflector_core.specs.PlainSession.{PlainSession};
 ghost use Rattle.reflector_core.specs.Play.{replies_from, TellsItsEvents};
 ghost use Rattle.reflector_core.specs.Growth.{is_offer};
 ghost use Rattle.session_lock.specs.Trusts.{IsTrusted, MayBeAsked};
-ghost use Rattle.session_lock.specs.History.{play_from, calls_of, history_requests, IsSoundThrough};
+ghost use Rattle.session_lock.specs.History.{play_from, calls_of, history_requests, item_of, IsSoundThrough};
 ghost use Rattle.session_lock.specs.Rules.{all_numbers, HoldsOnce, PlaysWell};
-ghost use Rattle.session_lock.specs.Steps.{with_ticket, Waits, HasTurn, HasCounted, Works, IsIdle, AnswersRequest, Fails, split_left, split_right};
+ghost use Rattle.session_lock.specs.Steps.{with_ticket, with_rest, with_loss, rested, Rests, Waits, HasTurn, InTurn, HasCounted, HasCommitted, HasEnded, HasMade, HasPutOff, HopesAt, Works, GoesOnSo, IsIdle, IsLostInTurn, IsNextInTurn, IsWaiting, MayCommit, MayEnd, MayRelease, MayPutOff, split_left, split_right};
 ghost use Rattle.session_lock.specs.Numbers.{count_of, in_ranges, drop_numbers};
 ghost use Rattle.reflector_core.specs.Keeping.{IsCovered};
-ghost use Rattle.session_lock.specs.Keeping.{KeepsPlay, SomeShut};
+ghost use Rattle.session_lock.specs.Keeping.{CanGoBack, HasCounts, KeepsHoped, KeepsPlay, SomeShut};
 ghost use Rattle.session_lock.specs.declared.held.KeptSession.{KeptSession};
+ghost use Rattle.session_lock.specs.declared.knowledge.Knowledge.{Knowledge};
 ghost use Rattle.session_lock.specs.Passes.{Replied, Voided, Missed, Caught, Given, Merged, HeldOnce, HoldsEach, UsedNoSpare, first_pass, caller, numbers_held, own_calls};
 
-use crate::held::KeptSession;
+use crate::held::{KeptSession, Waiting};
 use crate::knowledge::Knowledge;
 use crate::rule::{
-    Asking, CountAll, Cut, Draw, FinishDid, FinishUnkept, FinishVoid, Glue, Law, Look, LookUnused,
-    Mark, Marking, Settle, Sharing, Trusting,
+    Asking, CommitDid, CommitUnkept, CommitVoid, CountAll, Cut, Draw, Glue, Law, Look, LookUnused,
+    Lose, Mark, Marking, PutOffDid, PutOffUnkept, PutOffVoid, Release, Settle, Sharing, Trusting,
 };
 use crate::trust::Trust;
 use atomic_table::{Refused, Seat, Table};
@@ -32,8 +33,11 @@ use tea_base::{SessionId, WantOfMemory};
 /// The word with the number of tickets that were drawn.
 const NEXT: usize = 0;
 
-/// The word with the ticket that is served, which is the length of the history.
+/// The word with the ticket that is served.
 const SERVING: usize = 1;
+
+/// The word with the length of the history.
+const DONE: usize = 2;
 
 type Place<K> = Seat<KeptSession<K>, Knowledge>;
 
@@ -72,7 +76,7 @@ impl<T: Trust, K: Keeper> Model for SharedSession<T, K> {
 
     ghost view = { λ shared. shared_state shared.table.shared.table_id shared.table.shared.key (K.faults shared.table.shared.key.2.me.0.keeper) };
 
-    ghost invariant = { λ shared. (shared.table.shared.table_id.words ≡ 2) × (shared.table.shared.table_id.slots ≡ 1) };
+    ghost invariant = { λ shared. (shared.table.shared.table_id.words ≡ 3) × (shared.table.shared.table_id.slots ≡ 1) };
 }
 
 /// There was no memory for the lock. The session, the keeper and the trust come back.
@@ -178,7 +182,7 @@ impl<T: Trust> SharedSession<T> {
 
 impl<T: Trust, K: Keeper> SharedSession<T, K> {
     /// Shares a session, which the passes then know as their opening, and its keeper. What the keeper holds covers the
-    /// session, and keeps the same snapshot. The pass is caller 0, has seen nothing, and holds all other numbers below
+    /// session, and keeps the same snapshot; so does what it has written. The pass is caller 0, has seen nothing, and holds all other numbers below
     /// 2^32 as spare ones. The trust says which snapshots may be kept under this id, and allows the one that the session
     /// keeps, if it keeps one. It serves proofs alone, so it is let go.
     pub fn with_keeper(
@@ -190,6 +194,7 @@ impl<T: Trust, K: Keeper> SharedSession<T, K> {
     ) -> Result<(SharedSession<T, K>, Pass<K>), Unmade<T, K>>
         requires trusted { IsTrusted T.allows trust id session.plain }
         requires covered { IsCovered (K.holds keeper) session.plain.kept session.plain }
+        requires written { IsCovered (K.writes keeper) session.plain.kept session.plain }
         requires unshut { K.shut keeper → ⊥ }
         ensures pass { IfOk result (λ made. made.1 ≡ first_pass made.0.session session.plain) }
         ensures trust { IfOk result (λ made. (made.0.id ≡ id) × (made.0.trust ≡ trust)) }
@@ -214,7 +219,7 @@ impl<T: Trust, K: Keeper> SharedSession<T, K> {
         if let Err(AllocFailed { value: kept }) = slots.push(kept) {
             return Err(Unmade::of(kept, key.1));
         }
-        match Table::new(alloc, &[0, 0], slots, &key) {
+        match Table::new(alloc, &[0, 0, 0], slots, &key) {
             Ok((table, seat)) => Ok((SharedSession { table }, Pass { seat })),
             Err(Refused { mut slots }) => {
                 let Some(kept) = slots.pop() else {
@@ -228,8 +233,9 @@ impl<T: Trust, K: Keeper> SharedSession<T, K> {
     /// Makes a call that is no offer, in its turn, which it waits for. It adds one item to the history: what was asked;
     /// or, without memory, a Void; or, where what would change is not kept, an Unkept. The reply is the session's at that
     /// place of the history, and what the keeper holds then covers the session at the place behind it. At each place that
-    /// the pass has then seen the session was sound. Once 2^64 - 1 tickets were drawn, by calls that need not all have
-    /// ended, it draws none, adds nothing and waits for good.
+    /// the pass has then seen the session was sound. Where the keeper has something to settle, the call waits for a second
+    /// turn, and the keeper settles once for all calls that wait by then. Once 2^64 - 1 tickets were drawn, by calls that
+    /// need not all have ended, it draws none, adds nothing and waits for good.
     pub fn call_kept<R: Wait>(
         &self,
         rt: &R,
@@ -342,7 +348,7 @@ impl<T: Trust, K: Keeper> SharedSession<T, K> {
         ensures table { seat.new.table_id ≡ self.now.session }
         ensures counted { HasCounted J.trusted seat.old.me result seat.new.me }
     {
-        self.table.shared.load::<CountAll<J>>(seat, SERVING)
+        self.table.shared.load::<CountAll<J>>(seat, DONE)
     }
 
     // Makes a call for the pass.
@@ -377,36 +383,201 @@ impl<T: Trust, K: Keeper> SharedSession<T, K> {
         requires allowed { MayBeAsked T.allows self.now.trust self.now.id (play_from seat.old.me.0.opening seat.old.me.0.seen) request.now }
         requires idle { IsIdle seat.old.me }
         ensures table { seat.new.table_id ≡ self.now.session }
-        ensures made { MatchResult result
-            (λ reply. AnswersRequest J.trusted seat.old.me.0 seat.new.me request.now reply)
-            (λ fault. Fails (SomeShut K.shut) seat.old.me.0 seat.new.me request.now fault) }
+        ensures made { HasMade J.trusted (SomeShut K.shut) seat.old.me.0 request.now result seat.new.me }
         ensures plays { PlaysWell J.trusted seat.old.me.0.opening seat.new.me.0.seen }
+    {
+        self.enter::<J, R>(rt, seat);
+        let (result, place) = self.work(seat, request);
+        match place {
+            None => {
+                self.end::<J>(seat, &result);
+                result
+            }
+            Some(place) => {
+                self.put_off::<J>(seat, &result);
+                self.wait::<J, R>(rt, seat, request, result, place)
+            }
+        }
+    }
+
+    // Draws a ticket, and takes its turn.
+    fn enter<J: Trusting, R: Wait>(&self, rt: &R, seat: &mut Place<K>)
+        requires table { seat.old.table_id ≡ self.now.session }
+        requires trusted { (s : PlainSession) → IsTrusted T.allows self.now.trust self.now.id s → J.trusted s }
+        requires first { self.now.faults ≡ J.first }
+        requires rests { Rests seat.old.me }
+        ensures table { seat.new.table_id ≡ self.now.session }
+        ensures turn { InTurn J.trusted (KeepsHoped K.holds K.writes K.shut K.faults J.first) seat.old.me.0 seat.new.me }
     {
         let ticket = self.draw(rt, seat);
         self.take_turn::<J, R>(rt, seat, ticket);
-        match self.work(seat, request) {
-            Ok(reply) => {
-                self.table
-                    .shared
-                    .fetch_add::<FinishDid<J>>(seat, SERVING, 1);
-                self.table.shared.wake_all(SERVING);
-                Ok(reply)
-            }
-            Err(CallFault::WantOfMemory) => {
-                self.table
-                    .shared
-                    .fetch_add::<FinishVoid<J>>(seat, SERVING, 1);
-                self.table.shared.wake_all(SERVING);
-                Err(CallFault::WantOfMemory)
-            }
-            Err(CallFault::Unkept) => {
-                self.table
-                    .shared
-                    .fetch_add::<FinishUnkept<J>>(seat, SERVING, 1);
-                self.table.shared.wake_all(SERVING);
-                Err(CallFault::Unkept)
+    }
+
+    // Waits until what was put off comes into the history. Where it was lost, the call is made again.
+    fn wait<J: Asking + Trusting, R: Wait>(
+        &self,
+        rt: &R,
+        seat: &mut Place<K>,
+        request: &Request,
+        hoped: Result<Reply, CallFault>,
+        place: u64,
+    ) -> Result<Reply, CallFault>
+        requires table { seat.old.table_id ≡ self.now.session }
+        requires asked { request.now ≡ J.request }
+        requires trusted { (s : PlainSession) → IsTrusted T.allows self.now.trust self.now.id s → J.trusted s }
+        requires first { self.now.faults ≡ J.first }
+        requires allowed { MayBeAsked T.allows self.now.trust self.now.id (play_from seat.old.me.0.opening seat.old.me.0.seen) request.now }
+        requires waits { IsWaiting K.shut seat.old.me request.now hoped place }
+        ensures table { seat.new.table_id ≡ self.now.session }
+        ensures made { HasMade J.trusted (SomeShut K.shut) (rested seat.old.me.0) request.now result seat.new.me }
+        ensures plays { PlaysWell J.trusted seat.old.me.0.opening seat.new.me.0.seen }
+    {
+        if self.reach::<J, R>(rt, seat, place) {
+            self.end::<J>(seat, &hoped);
+            return hoped;
+        }
+        self.again::<J>(seat, request)
+    }
+
+    // Takes turns until the call that waits behind so many items is the next and is safe, or was lost, and tells whether it
+    // is the next.
+    fn reach<J: Trusting, R: Wait>(&self, rt: &R, seat: &mut Place<K>, place: u64) -> bool
+        requires table { seat.old.table_id ≡ self.now.session }
+        requires trusted { (s : PlainSession) → IsTrusted T.allows self.now.trust self.now.id s → J.trusted s }
+        requires first { self.now.faults ≡ J.first }
+        requires rests { Rests seat.old.me }
+        requires hopes { HopesAt seat.old.me.0 place }
+        ensures table { seat.new.table_id ≡ self.now.session }
+        ensures next { result ≡ true → IsNextInTurn J.trusted (KeepsHoped K.holds K.writes K.shut K.faults J.first) seat.old.me.0 seat.new.me }
+        ensures lost { result ≡ false → IsLostInTurn J.trusted (KeepsHoped K.holds K.writes K.shut K.faults J.first) seat.old.me.0 seat.new.me }
+    {
+        for _ in rt.forever() {
+            self.enter::<J, R>(rt, seat);
+            match self.settle(seat, place) {
+                Waiting::Ended => return true,
+                Waiting::Lost => return false,
+                Waiting::GoesOn => {
+                    self.release::<J>(seat);
+                    // lets whose item comes first draw its ticket
+                    thread::yield_now();
+                }
             }
         }
+        unreachable!()
+    }
+
+    // Makes a call again that was lost.
+    fn again<J: Asking + Trusting>(
+        &self,
+        seat: &mut Place<K>,
+        request: &Request,
+    ) -> Result<Reply, CallFault>
+        requires table { seat.old.table_id ≡ self.now.session }
+        requires asked { request.now ≡ J.request }
+        requires trusted { (s : PlainSession) → IsTrusted T.allows self.now.trust self.now.id s → J.trusted s }
+        requires first { self.now.faults ≡ J.first }
+        requires lost { (v : Knowledge) × IsLostInTurn J.trusted (KeepsHoped K.holds K.writes K.shut K.faults J.first) v seat.old.me
+            × MayBeAsked T.allows self.now.trust self.now.id (play_from v.opening v.seen) request.now }
+        ensures table { seat.new.table_id ≡ self.now.session }
+        ensures made { (v : Knowledge) → IsLostInTurn J.trusted (KeepsHoped K.holds K.writes K.shut K.faults J.first) v seat.old.me →
+            HasMade J.trusted (SomeShut K.shut) (rested v) request.now result seat.new.me }
+        ensures plays { PlaysWell J.trusted seat.old.me.0.opening seat.new.me.0.seen }
+    {
+        self.lose::<J>(seat);
+        let (result, _) = self.work(seat, request);
+        self.end::<J>(seat, &result);
+        result
+    }
+
+    // The item of a call comes into the history, and the turn ends.
+    fn end<J: Asking + Trusting>(&self, seat: &mut Place<K>, made: &Result<Reply, CallFault>)
+        requires table { seat.old.table_id ≡ self.now.session }
+        requires trusted { (s : PlainSession) → IsTrusted T.allows self.now.trust self.now.id s → J.trusted s }
+        requires first { self.now.faults ≡ J.first }
+        requires may { MayEnd (IsTrusted T.allows self.now.trust self.now.id) (KeepsHoped K.holds K.writes K.shut K.faults J.first) seat.old.me (λ caller. item_of caller J.request made.now) }
+        ensures table { seat.new.table_id ≡ self.now.session }
+        ensures ended { HasEnded J.trusted (λ caller. item_of caller J.request made.now) seat.old.me seat.new.me }
+    {
+        self.commit::<J>(seat, made);
+        self.release::<J>(seat);
+    }
+
+    // The item of a call comes into the history.
+    fn commit<J: Asking + Trusting>(&self, seat: &mut Place<K>, made: &Result<Reply, CallFault>)
+        requires table { seat.old.table_id ≡ self.now.session }
+        requires trusted { (s : PlainSession) → IsTrusted T.allows self.now.trust self.now.id s → J.trusted s }
+        requires may { MayCommit (IsTrusted T.allows self.now.trust self.now.id) seat.old.me.0 (λ caller. item_of caller J.request made.now) }
+        ensures table { seat.new.table_id ≡ self.now.session }
+        ensures committed { HasCommitted J.trusted (λ caller. item_of caller J.request made.now) seat.old.me seat.new.me }
+    {
+        let shared = &self.table.shared;
+        match made {
+            Ok(_) => {
+                shared.fetch_add::<CommitDid<J>>(seat, DONE, 1);
+            }
+            Err(CallFault::WantOfMemory) => {
+                shared.fetch_add::<CommitVoid<J>>(seat, DONE, 1);
+            }
+            Err(CallFault::Unkept) => {
+                shared.fetch_add::<CommitUnkept<J>>(seat, DONE, 1);
+            }
+        }
+    }
+
+    // Ends the turn.
+    fn release<J: Trusting>(&self, seat: &mut Place<K>)
+        requires table { seat.old.table_id ≡ self.now.session }
+        requires first { self.now.faults ≡ J.first }
+        requires may { MayRelease (KeepsHoped K.holds K.writes K.shut K.faults J.first) seat.old.me }
+        ensures table { seat.new.table_id ≡ self.now.session }
+        ensures released { seat.new.me ≡ (with_rest seat.old.me.0, []) }
+    {
+        self.table.shared.fetch_add::<Release>(seat, SERVING, 1);
+        self.table.shared.wake_all(SERVING);
+    }
+
+    // Ends the turn, with the item of a call behind those that wait.
+    fn put_off<J: Asking + Trusting>(&self, seat: &mut Place<K>, made: &Result<Reply, CallFault>)
+        requires table { seat.old.table_id ≡ self.now.session }
+        requires first { self.now.faults ≡ J.first }
+        requires may { MayPutOff (IsTrusted T.allows self.now.trust self.now.id) (KeepsHoped K.holds K.writes K.shut K.faults J.first) seat.old.me (λ caller. item_of caller J.request made.now) }
+        ensures table { seat.new.table_id ≡ self.now.session }
+        ensures put { HasPutOff (λ caller. item_of caller J.request made.now) seat.old.me seat.new.me }
+    {
+        self.put_behind::<J>(seat, made);
+        self.table.shared.wake_all(SERVING);
+    }
+
+    // Gives the session back, with the item of a call behind those that wait.
+    fn put_behind<J: Asking + Trusting>(&self, seat: &mut Place<K>, made: &Result<Reply, CallFault>)
+        requires table { seat.old.table_id ≡ self.now.session }
+        requires first { self.now.faults ≡ J.first }
+        requires may { MayPutOff (IsTrusted T.allows self.now.trust self.now.id) (KeepsHoped K.holds K.writes K.shut K.faults J.first) seat.old.me (λ caller. item_of caller J.request made.now) }
+        ensures table { seat.new.table_id ≡ self.now.session }
+        ensures put { HasPutOff (λ caller. item_of caller J.request made.now) seat.old.me seat.new.me }
+    {
+        let shared = &self.table.shared;
+        match made {
+            Ok(_) => {
+                shared.fetch_add::<PutOffDid<J>>(seat, SERVING, 1);
+            }
+            Err(CallFault::WantOfMemory) => {
+                shared.fetch_add::<PutOffVoid>(seat, SERVING, 1);
+            }
+            Err(CallFault::Unkept) => {
+                shared.fetch_add::<PutOffUnkept>(seat, SERVING, 1);
+            }
+        }
+    }
+
+    // Notes that what waited is gone. The word is read for the proof alone.
+    fn lose<J: Trusting>(&self, seat: &mut Place<K>)
+        requires table { seat.old.table_id ≡ self.now.session }
+        requires holding { seat.old.me.0.holding ≡ true }
+        ensures table { seat.new.table_id ≡ self.now.session }
+        ensures lost { seat.new.me ≡ (with_loss seat.old.me.0, seat.old.me.1) }
+    {
+        self.table.shared.load::<Lose>(seat, DONE);
     }
 
     // Draws a ticket. Once 2^64 - 1 were drawn it waits for good.
@@ -416,6 +587,7 @@ impl<T: Trust, K: Keeper> SharedSession<T, K> {
         requires caller { 0 < length seat.old.me.0.callers }
         ensures table { seat.new.table_id ≡ self.now.session }
         ensures drawn { seat.new.me ≡ (with_ticket seat.old.me.0 result, seat.old.me.1) }
+        ensures bound { result < 2 ^ 64 - 1 }
     {
         let shared = &self.table.shared;
         for _ in rt.forever() {
@@ -438,7 +610,7 @@ impl<T: Trust, K: Keeper> SharedSession<T, K> {
         requires first { self.now.faults ≡ J.first }
         requires drawn { Waits seat.old.me ticket }
         ensures table { seat.new.table_id ≡ self.now.session }
-        ensures turn { HasTurn J.trusted (KeepsPlay K.holds K.shut K.faults J.first) seat.old.me ticket seat.new.me }
+        ensures turn { HasTurn J.trusted (KeepsHoped K.holds K.writes K.shut K.faults J.first) seat.old.me ticket seat.new.me }
     {
         for _ in rt.forever() {
             let found = self.table.shared.load::<Look<J>>(seat, SERVING);
@@ -453,14 +625,29 @@ impl<T: Trust, K: Keeper> SharedSession<T, K> {
     }
 
     // Calls the session in hand.
-    fn work(&self, seat: &mut Place<K>, request: &Request) -> Result<Reply, CallFault>
+    fn work(
+        &self,
+        seat: &mut Place<K>,
+        request: &Request,
+    ) -> (Result<Reply, CallFault>, Option<u64>)
         requires table { seat.old.table_id ≡ self.now.session }
-        requires hand { (kept : KeptSession K) × (seat.old.me.1 ≡ (0, kept) ∷ []) }
+        requires hand { (kept : KeptSession K) × (seat.old.me.1 ≡ (0, kept) ∷ []) × HasCounts kept }
         ensures table { seat.new.table_id ≡ self.now.session }
-        ensures reply { Works K.holds K.shut K.faults seat.old.me request.now result seat.new.me }
+        ensures reply { (first : ℕ) → Works (KeepsHoped K.holds K.writes K.shut K.faults first) K.shut seat.old.me request.now result.0 result.1 seat.new.me }
     {
         let kept = seat.slot_mut(&self.table.shared, 0);
         kept.call(request)
+    }
+
+    // Settles the session in hand for a call that waits behind so many items.
+    fn settle(&self, seat: &mut Place<K>, place: u64) -> Waiting
+        requires table { seat.old.table_id ≡ self.now.session }
+        requires hand { (kept : KeptSession K) × (seat.old.me.1 ≡ (0, kept) ∷ []) × HasCounts kept × CanGoBack kept }
+        ensures table { seat.new.table_id ≡ self.now.session }
+        ensures how { (first : ℕ) → GoesOnSo (KeepsHoped K.holds K.writes K.shut K.faults first) seat.old.me place result seat.new.me }
+    {
+        let kept = seat.slot_mut(&self.table.shared, 0);
+        kept.settle(place)
     }
 
     // The seat of a new pass, with the first number that is taken as its caller's.

@@ -28,10 +28,10 @@ pub(crate) struct Law<T, K> {
 impl<T: Trust, K: Keeper> TableRule<KeptSession<K>, Knowledge, (SessionId, T, Mark<K>)>
     for Law<T, K> {
     ghost use Rattle.session_lock.specs.Trusts.{IsTrusted};
-    ghost use Rattle.session_lock.specs.Keeping.{KeepsPlay};
+    ghost use Rattle.session_lock.specs.Keeping.{KeepsHoped};
     ghost use Rattle.session_lock.specs.Rules.{Locks, first_knowledge};
 
-    ghost holds = { λ key. Locks (IsTrusted T.allows key.1 key.0) (KeepsPlay K.holds K.shut K.faults (K.faults key.2.me.0.keeper)) };
+    ghost holds = { λ key. Locks (IsTrusted T.allows key.1 key.0) (KeepsHoped K.holds K.writes K.shut K.faults (K.faults key.2.me.0.keeper)) };
 
     ghost first = { λ key. first_knowledge key.2.me.0.session };
 }
@@ -79,46 +79,96 @@ pub(crate) struct Look<J> {
 }
 
 impl<J: Trusting, K: Keeper> Play<KeptSession<K>, Knowledge> for Look<J> {
-    ghost use Rattle.session_lock.specs.Keeping.{KeepsPlay};
+    ghost use Rattle.session_lock.specs.Keeping.{KeepsHoped};
     ghost use Rattle.session_lock.specs.Steps.{Looks};
 
-    ghost then = { Looks J.trusted (KeepsPlay K.holds K.shut K.faults J.first) };
+    ghost then = { Looks J.trusted (KeepsHoped K.holds K.writes K.shut K.faults J.first) };
 }
 
-/// The call was made.
-pub(crate) struct FinishDid<J> {
+/// A call that was answered comes into the history.
+pub(crate) struct CommitDid<J> {
     asking: PhantomData<J>,
 }
 
-impl<J: Asking + Trusting, K> Play<KeptSession<K>, Knowledge> for FinishDid<J> {
+impl<J: Asking + Trusting, K> Play<KeptSession<K>, Knowledge> for CommitDid<J> {
     ghost use Rattle.session_lock.specs.declared.knowledge.Item.TheVariants.{Did};
-    ghost use Rattle.session_lock.specs.Steps.{Finishes};
+    ghost use Rattle.session_lock.specs.Steps.{Commits};
 
-    ghost then = { Finishes J.trusted (λ caller. Did caller J.request) };
+    ghost then = { Commits J.trusted (λ caller. Did caller J.request) };
 }
 
-/// The call found no memory.
-pub(crate) struct FinishVoid<J> {
+/// So does one that found no memory.
+pub(crate) struct CommitVoid<J> {
     trusting: PhantomData<J>,
 }
 
-impl<J: Trusting, K> Play<KeptSession<K>, Knowledge> for FinishVoid<J> {
+impl<J: Trusting, K> Play<KeptSession<K>, Knowledge> for CommitVoid<J> {
     ghost use Rattle.session_lock.specs.declared.knowledge.Item.TheVariants.{Void};
-    ghost use Rattle.session_lock.specs.Steps.{Finishes};
+    ghost use Rattle.session_lock.specs.Steps.{Commits};
 
-    ghost then = { Finishes J.trusted (λ caller. Void caller) };
+    ghost then = { Commits J.trusted (λ caller. Void caller) };
 }
 
-/// What the call would have changed was not kept.
-pub(crate) struct FinishUnkept<J> {
+/// And one of which what it would have changed was not kept.
+pub(crate) struct CommitUnkept<J> {
     trusting: PhantomData<J>,
 }
 
-impl<J: Trusting, K> Play<KeptSession<K>, Knowledge> for FinishUnkept<J> {
+impl<J: Trusting, K> Play<KeptSession<K>, Knowledge> for CommitUnkept<J> {
     ghost use Rattle.session_lock.specs.declared.knowledge.Item.TheVariants.{Unkept};
-    ghost use Rattle.session_lock.specs.Steps.{Finishes};
+    ghost use Rattle.session_lock.specs.Steps.{Commits};
 
-    ghost then = { Finishes J.trusted (λ caller. Unkept caller) };
+    ghost then = { Commits J.trusted (λ caller. Unkept caller) };
+}
+
+/// The turn ends.
+pub(crate) struct Release;
+
+impl<K> Play<KeptSession<K>, Knowledge> for Release {
+    ghost use Rattle.session_lock.specs.Steps.{Releases};
+
+    ghost then = { Releases };
+}
+
+/// The turn ends, and a call that was answered waits to come into the history.
+pub(crate) struct PutOffDid<J> {
+    asking: PhantomData<J>,
+}
+
+impl<J: Asking, K> Play<KeptSession<K>, Knowledge> for PutOffDid<J> {
+    ghost use Rattle.session_lock.specs.declared.knowledge.Item.TheVariants.{Did};
+    ghost use Rattle.session_lock.specs.Steps.{PutsOff};
+
+    ghost then = { PutsOff (λ caller. Did caller J.request) };
+}
+
+/// So does one that found no memory.
+pub(crate) struct PutOffVoid;
+
+impl<K> Play<KeptSession<K>, Knowledge> for PutOffVoid {
+    ghost use Rattle.session_lock.specs.declared.knowledge.Item.TheVariants.{Void};
+    ghost use Rattle.session_lock.specs.Steps.{PutsOff};
+
+    ghost then = { PutsOff (λ caller. Void caller) };
+}
+
+/// And one of which what it would have changed was not kept.
+pub(crate) struct PutOffUnkept;
+
+impl<K> Play<KeptSession<K>, Knowledge> for PutOffUnkept {
+    ghost use Rattle.session_lock.specs.declared.knowledge.Item.TheVariants.{Unkept};
+    ghost use Rattle.session_lock.specs.Steps.{PutsOff};
+
+    ghost then = { PutsOff (λ caller. Unkept caller) };
+}
+
+/// What waited is gone.
+pub(crate) struct Lose;
+
+impl<K> Play<KeptSession<K>, Knowledge> for Lose {
+    ghost use Rattle.session_lock.specs.Steps.{Loses};
+
+    ghost then = { Loses };
 }
 
 pub(crate) struct CountAll<J> {

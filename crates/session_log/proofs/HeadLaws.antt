@@ -1,12 +1,14 @@
 -- Readings of the entries of heads, and what one more head does to them.
-use Rattle.std.proofs.Common.{ℕ, ◌+◌, ◌≡◌, ◌≤◌, ◌<◌, Bool, true, false, cond, List, [], ◌∷◌, ◌++◌, Some, zero, suc, subst, slice_get, length-append, length, get_or, map, sym, ap, ◌∙◌, refl, arith}
+use Rattle.std.proofs.Common.{ℕ, ◌+◌, ◌≡◌, ◌≤◌, ◌<◌, Bool, true, false, cond, List, [], ◌∷◌, ◌++◌, Some, zero, suc, subst, slice_get, length-append, length-take, length-drop, length, get_or, map, sym, ap, ◌∙◌, refl, arith}
 use Rattle.std.proofs.lemmas.List.{map-append, get_or-map, length-map}
 use Rattle.std.proofs.lemmas.Option.{slice_get-get_or}
 use Rattle.tea_base.specs.declared.entry.Entry.{Entry}
-use Rattle.tea_base.specs.Readings.{is_event_of, view_events, last_number, event_payload, payload_len}
-use Rattle.tea_base.specs.Legal.{MayFollow}
+use Rattle.tea_base.specs.Readings.{is_event_of, view_events, last_number, event_payload, payload_bytes, payload_len}
+use Rattle.tea_base.specs.Legal.{IsLegal, IsLegalAfter, MayFollow}
 use Rattle.tea_base.specs.Limits.{most_entries}
 use Rattle.tea_base.proofs.LogLaws.{sent-push, IsLegal-push, payload_bytes-push, MayFollow-short}
+use Rattle.event_region.specs.declared.region.Place.{Place}
+use Rattle.event_region.specs.RegionState.{place_bytes}
 use Rattle.event_region.proofs.ChunkLaws.{place_kept}
 use Rattle.tea_base.specs.declared.entry.What.{What}
 use Rattle.tea_base.specs.declared.entry.What.TheVariants as what
@@ -60,11 +62,9 @@ AreSound-push payloads grown heads pushed head what sound grows push kept last s
     let entry = next_entry entries head.time head.view what in
     let long : length entries + 1 ≡ head.seq = omega (arith, length-map heads (entry_of payloads)) in
     let pushes = entries-push payloads (event_payload what) grown heads pushed head what sound.within grows push kept in
-    let counts = rw long at (payload_bytes-push entries entry) in
     let more : length grown ≡ length payloads + payload_len what = omega (arith, ap length grows, length-append payloads (event_payload what)) in
     record {
       legal = rw (pushes, ← long) (IsLegal-push entries entry sound.legal may);
-      counted = rw (pushes, more) (omega (arith, counts, sound.counted));
       within = AreWithin-push (length payloads) (length grown) heads pushed head (omega arith) sound.within push last;
     }
 
@@ -102,3 +102,49 @@ slice_get-read payloads heads i head below read =
     let within : i < length (map (entry_of payloads) heads) = omega (arith, length-map heads (entry_of payloads)) in
     let at = get_or-map (entry_of payloads) heads i head (entry_of payloads head) below in
     slice_get-get_or (map (entry_of payloads) heads) i (entry_of payloads head) within ∙ ap Some (at ∙ ap (entry_of payloads) (sym read))
+
+-- ---- an entry more, and an entry less
+
+-- so many payload bytes, after one more entry
+pub counted-push : (log all : List Entry) (entry : Entry) (bytes more : ℕ) → all ≡ log ++ entry ∷ [] → bytes ≡ payload_bytes log → more ≡ payload_len entry.what → bytes + more ≡ payload_bytes all
+counted-push log all entry bytes more whole counted len = omega (arith, ap payload_bytes whole, payload_bytes-push log entry, counted, len)
+
+IsLegalAfter-front : (before log rest : List Entry) → IsLegalAfter before (log ++ rest) → IsLegalAfter before log
+IsLegalAfter-front before [] rest legal = tt
+IsLegalAfter-front before (entry ∷ log) rest legal = (legal.0, IsLegalAfter-front (before ++ entry ∷ []) log rest legal.1)
+
+pub IsLegal-front : (log rest : List Entry) → IsLegal (log ++ rest) → IsLegal log
+IsLegal-front log rest legal = IsLegalAfter-front [] log rest legal
+
+AreWithin-front : (bound : ℕ) (heads rest : List Head) → AreWithin bound (heads ++ rest) → AreWithin bound heads
+AreWithin-front bound [] rest within = tt
+AreWithin-front bound (head ∷ heads) rest within = (within.0, AreWithin-front bound heads rest within.1)
+
+AreWithin-last : (bound : ℕ) (heads : List Head) (head : Head) → AreWithin bound (heads ++ head ∷ []) → IsKindWithin bound head.kind
+AreWithin-last bound [] head within = within.0
+AreWithin-last bound (first ∷ heads) head within = AreWithin-last bound heads head within.1
+
+-- what the vectors say where one head less is in them
+pub record IsPopped (payloads : List ℕ) (all heads : List Head) (head : Head) : Type 0 where
+  pub sound : AreSound payloads heads
+  pub within : IsKindWithin (length payloads) head.kind
+  pub whole : map (entry_of payloads) all ≡ map (entry_of payloads) heads ++ entry_of payloads head ∷ []
+  pub bytes : payload_bytes (map (entry_of payloads) all) ≡ payload_bytes (map (entry_of payloads) heads) + payload_len (what_of payloads head.kind)
+
+pub popped : (payloads : List ℕ) (all heads : List Head) (head : Head) → AreSound payloads all → all ≡ heads ++ head ∷ [] → IsPopped payloads all heads head
+popped payloads all heads head sound is =
+    let whole : map (entry_of payloads) all ≡ map (entry_of payloads) heads ++ entry_of payloads head ∷ [] = ap (map (entry_of payloads)) is ∙ map-append (entry_of payloads) heads (head ∷ []) in
+    let within : AreWithin (length payloads) (heads ++ head ∷ []) = subst (AreWithin (length payloads)) is sound.within in
+    record {
+      sound = record { legal = IsLegal-front (map (entry_of payloads) heads) (entry_of payloads head ∷ []) (subst IsLegal whole sound.legal); within = AreWithin-front (length payloads) heads (head ∷ []) within };
+      within = AreWithin-last (length payloads) heads head within;
+      whole = whole;
+      bytes = ap payload_bytes whole ∙ payload_bytes-push (map (entry_of payloads) heads) (entry_of payloads head);
+    }
+
+-- a place has so many bytes
+pub event_len : (payloads : List ℕ) (kind : HeadKind) (number : ℕ) (place : Place) → kind ≡ Event number place → IsKindWithin (length payloads) kind → place.len ≡ payload_len (what_of payloads kind)
+event_len payloads kind number place is within =
+    let here : IsKindWithin (length payloads) (Event number place) = subst (IsKindWithin (length payloads)) is within in
+    let long : length (place_bytes payloads place) ≡ place.len = simp (length-take, length-drop) (let fits = here.0 in omega (arith, fits)) in
+    sym long ∙ ap (λ (k : HeadKind). payload_len (what_of payloads k)) (sym is)

@@ -19,11 +19,11 @@ log_state log =
 -- the bytes of all payloads and the heads are those of a legal log
 pub record AreSound (payloads : List ℕ) (heads : List Head) : Type 0 where
   pub legal : IsLegal (map (entry_of payloads) heads)
-  pub counted : payload_bytes (map (entry_of payloads) heads) ≡ length payloads
   pub within : AreWithin (length payloads) heads
 
 -- the heads have memory for the room that is told
 pub record IsSoundLog (log : Inside) : Type 0 where
   pub kept : AreSound log.payloads.bytes log.heads.items
+  pub counted : log.bytes ≡ payload_bytes (log_entries log)
   pub short : vec_len log.heads ≤ most_entries
   pub room_for_entries : vec_len log.heads + log.spare_entries ≤ vec_capacity log.heads

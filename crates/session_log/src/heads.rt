@@ -3,7 +3,8 @@ ghost use Rattle.std.specs.Prelude.{◌≡◌, ◌≤◌, ◌<◌, ◌+◌, ◌+
 ghost use Rattle.std.specs.List.Sorted.{IsNonDecreasingBy};
 ghost use Rattle.tea_base.specs.Readings.{count_until, last_number, last_time};
 ghost use Rattle.tea_base.specs.Limits.{most_entries};
-ghost use Rattle.session_log.specs.Heads.{entry_of};
+ghost use Rattle.tea_base.specs.Readings.{payload_len};
+ghost use Rattle.session_log.specs.Heads.{entry_of, what_of, IsKindWithin};
 
 use event_region::Place;
 
@@ -44,6 +45,17 @@ pub fn push_head(heads: &mut Vec<Head>, time: u64, view: u32, kind: HeadKind) ->
     match heads.push(head) {
         Ok(()) => seq,
         Err(_) => unreachable!(),
+    }
+}
+
+/// How many payload bytes an entry has.
+pub fn payload_len(kind: HeadKind) -> u64
+    ensures { (payloads : List ℕ) → IsKindWithin (length payloads) kind →
+        result ≡ payload_len (what_of payloads kind) }
+{
+    match kind {
+        HeadKind::Join | HeadKind::Exit => 0,
+        HeadKind::Event { place, .. } => u64::from(place.len),
     }
 }
 

@@ -3,7 +3,7 @@ ghost use Rattle.std.specs.Prelude.{◌≡◌, ◌↔◌, ◌+◌, ◌-◌, ◌^
 ghost use Rattle.tea_base.specs.Readings.{payload_bytes, count_until, last_number, last_time, payload_len};
 ghost use Rattle.tea_base.specs.Legal.{IsLegal, MayFollow};
 ghost use Rattle.tea_base.specs.Limits.{most_entries, most_bytes};
-ghost use Rattle.session_log.specs.LogState.{next_entry, with_next, HasPayloadAt};
+ghost use Rattle.session_log.specs.LogState.{next_entry, with_next, HasPayloadAt, LosesLast};
 ghost use Rattle.session_log.specs.Heads.{what_of, IsPresence};
 ghost use Rattle.session_log.specs.Kinds.{entry_kind};
 ghost use Rattle.session_log.specs.Room.{Fills};
@@ -11,7 +11,9 @@ ghost use Rattle.session_log.specs.Spelling.{log_entry_spelling};
 ghost use Rattle.byte_fields.specs.Fields.{list_of};
 
 use crate::filling::Filling;
-use crate::heads::{Head, HeadKind, count_until, last_number_in, last_time_in, push_head};
+use crate::heads::{
+    Head, HeadKind, count_until, last_number_in, last_time_in, payload_len, push_head,
+};
 use crate::kinds::{EntryKind, kind_of_head};
 use crate::payloads::{copy_what, is_stored, store_event};
 use crate::spelling::write_entries;
@@ -34,6 +36,8 @@ pub enum GetRefusal {
 pub struct Log {
     heads: Vec<Head>,
     payloads: Region,
+    // of the entries: the payloads of those that were popped are in the region still
+    bytes: u64,
     // the vector's capacity tells no exact room, so it is counted here
     spare_entries: u32,
 }
@@ -60,6 +64,7 @@ impl Log {
         Log {
             heads: Vec::new(alloc),
             payloads: Region::new(alloc),
+            bytes: 0,
             spare_entries: 0,
         }
     }
@@ -78,7 +83,7 @@ impl Log {
         ensures bytes { result ≡ payload_bytes self.now.entries }
         ensures bound { result ≤ most_bytes }
     {
-        self.payloads.len()
+        self.bytes
     }
 
     /// For how many entries and payload bytes there is room.
@@ -143,6 +148,7 @@ impl Log {
     {
         let kind = store_event(&mut self.payloads, number, payload);
         let seq = push_head(&mut self.heads, time, view, kind);
+        self.bytes += payload.len() as u64;
         self.spare_entries -= 1;
         seq
     }
@@ -161,6 +167,23 @@ impl Log {
         let seq = push_head(&mut self.heads, time, view, kind);
         self.spare_entries -= 1;
         seq
+    }
+
+    /// Takes the last entry away, and tells its view and what it records. The memory of its payload is not used again. Takes
+    /// no memory.
+    pub fn pop(&mut self) -> (u32, EntryKind)
+        requires { 0 < length self.old.entries }
+        ensures popped { LosesLast self.old.entries self.new.entries result.0 result.1 }
+        ensures spare_entries { self.new.spare_entries ≡ self.old.spare_entries }
+        ensures spare_bytes { self.new.spare_bytes ≡ self.old.spare_bytes }
+    {
+        match self.heads.pop() {
+            None => unreachable!(),
+            Some(head) => {
+                self.bytes -= payload_len(head.kind);
+                (head.view, kind_of_head(head.kind))
+            }
+        }
     }
 
     /// How many entries have a time of at most `time`, in microseconds.

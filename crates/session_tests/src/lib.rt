@@ -3,4 +3,6 @@
 #![tactic(auto)]
 
 #[cfg(test)]
+mod kept_sessions;
+#[cfg(test)]
 mod shared_sessions;

@@ -82,7 +82,7 @@ fn two_join_and_send<T: Trust + Sync, R: Threads + Wait + Sync>(
 }
 
 /// How many events of the view the log has, if they are numbered 1, 2, 3 and so on; else 0.
-fn events_of(log: &Log, view: u32) -> Result<u32, Fail> {
+pub fn events_of(log: &Log, view: u32) -> Result<u32, Fail> {
     let mut last = 0u32;
     for seq in 1..=log.len() {
         let entry = log.get(seq)?;

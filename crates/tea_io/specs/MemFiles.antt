@@ -51,7 +51,7 @@ read_answer files name limit =
     if fails_at files.failing files.next_call then Err Failed
     else within_limit (bytes_of files.held name) limit
 
--- what a write answers
+-- what a write answers, and a look
 abbrev pub write_answer : MemFilesState → Result (Unit {0}) FileFault
 write_answer files = if fails_at files.failing files.next_call then Err Failed else Ok tt
 

@@ -2,7 +2,7 @@
 ghost use Rattle.std.specs.Prelude.{◌≡◌, ◌≢◌, ℕ, ◌≤◌, List, length, Option, Err};
 ghost use Rattle.std.specs.Prelude.{IfOk, IfErr, OnOk};
 ghost use Rattle.tea_io.specs.declared.files.FileCall.{FileCall};
-ghost use Rattle.tea_io.specs.declared.files.FileCall.TheVariants.{Read, Write};
+ghost use Rattle.tea_io.specs.declared.files.FileCall.TheVariants.{Look, Read, Write};
 ghost use Rattle.tea_io.specs.declared.files.FileFault.TheVariants.{WantOfMemory};
 ghost use Rattle.tea_io.specs.Files.{Content, MayBe, IsTooLargeFor, IsNotTooLarge, Holds};
 ghost use Rattle.tea_io.specs.Files.{AsksFiles, FileCause, FileWant};
@@ -35,6 +35,8 @@ pub enum FileCall {
     Read(Text),
     /// A write under this name.
     Write(Text),
+    /// A look at this name.
+    Look(Text),
 }
 
 /// Files by name. Names are told apart by their characters. Where an implementation knows what it
@@ -74,6 +76,15 @@ pub trait Files {
             → held self.new name.now ≡ held self.old name.now }
         ensures no_limit { IfErr result IsNotTooLarge }
         ensures asked { AsksFiles (asked self.old) (asked self.new) (Write name.now) result }
+        ensures cause { FileCause (faults self.old) (faults self.new) result }
+        ensures want { FileWant (wants self.old) (wants self.new) result };
+
+    /// Looks whether bytes can be put under a name, as far as that can be told before. What is held
+    /// stays, whatever the answer. A later write may fail all the same.
+    fn look(&mut self, name: &Text) -> Result<(), FileFault>
+        ensures same { (other : List ℕ) → held self.new other ≡ held self.old other }
+        ensures no_limit { IfErr result IsNotTooLarge }
+        ensures asked { AsksFiles (asked self.old) (asked self.new) (Look name.now) result }
         ensures cause { FileCause (faults self.old) (faults self.new) result }
         ensures want { FileWant (wants self.old) (wants self.new) result };
 }

@@ -2,7 +2,7 @@
 ghost use Rattle.std.specs.Prelude.{◌≡◌, ◌≢◌, ◌≤◌, ℕ, List, [], length, map, Some, Err};
 ghost use Rattle.std.specs.Prelude.{IfOk, IfErr, OnOk, OnErr, AllPairs};
 ghost use Rattle.std.specs.Option.{option_copied};
-ghost use Rattle.tea_io.specs.declared.files.FileCall.TheVariants.{Read, Write};
+ghost use Rattle.tea_io.specs.declared.files.FileCall.TheVariants.{Look, Read, Write};
 ghost use Rattle.tea_io.specs.Told.{Rose};
 ghost use Rattle.tea_io.specs.Files.{MayBe, IsTooLargeFor, IsNotTooLarge, Holds, AsksFiles, FileCause, FileWant};
 ghost use Rattle.tea_io.specs.MemFiles.{bytes_of, content_of, within_limit, with_file, files_with_call};
@@ -183,6 +183,22 @@ impl MemFiles {
         self.next_call = self.next_call.saturating_add(1);
         Ok(())
     }
+
+    /// Looks, and notes and counts the call, but not that it was out of memory.
+    fn try_look(&mut self, name: &Text) -> Result<(), FileFault>
+        ensures answer { IsAnswer (write_answer self.old) result }
+        ensures leaves { self.new ≡ files_tried result self.old (Look name.now) self.old.held }
+        ensures later { self.old.faults ≤ self.new.faults }
+        ensures wants { self.new.wants ≡ self.old.wants }
+    {
+        let call = FileCall::Look(name.try_clone()?);
+        if is_failing(self.failing.as_slice(), self.next_call) {
+            self.note_failed(call)?;
+            return Err(FileFault::Failed);
+        }
+        self.note(call)?;
+        Ok(())
+    }
 }
 
 impl Files for MemFiles {
@@ -231,6 +247,23 @@ impl Files for MemFiles {
             ≡ files_after result self.old (Write name.now) (with_file name.now bytes.now self.old.held) }
     {
         match self.try_write(name, bytes) {
+            Ok(()) => Ok(()),
+            Err(fault) => Err(self.counted(fault)),
+        }
+    }
+
+    fn look(&mut self, name: &Text) -> Result<(), FileFault>
+        ensures same { (other : List ℕ) → content_of self.new other ≡ content_of self.old other }
+        ensures no_limit { IfErr result IsNotTooLarge }
+        ensures asked { AsksFiles (Some self.old.asked) (Some self.new.asked) (Look name.now) result }
+        ensures cause { FileCause self.old.faults self.new.faults result }
+        ensures want { FileWant self.old.wants self.new.wants result }
+
+        // What it answers but for want of memory, and all that it leaves.
+        ensures answer { IsAnswer (write_answer self.old) result }
+        ensures leaves { self.new ≡ files_after result self.old (Look name.now) self.old.held }
+    {
+        match self.try_look(name) {
             Ok(()) => Ok(()),
             Err(fault) => Err(self.counted(fault)),
         }

@@ -48,16 +48,16 @@ use Rattle.view_follows.specs.Links.{BeginsHonestly, LinkTalk}
 use Rattle.view_follows.specs.Sessions.{ComesFrom}
 use Rattle.view_follows.proofs.Heard.{all_last, begins_link, begins_served, comes_last, dones-append, first_sent, place_last, read_last, some_alike}
 use Rattle.view_follows.proofs.Numbers.{CountUp, IsAt, IsNoRefusal, answered_at, answers-append, counted_at, count_up-append, dones, dones_so, none_refused, numbers-append, numbers_in, sends_count_up, sends_length, sent_at}
-use Rattle.view_follows.proofs.Stands.{RealReplica, RealWorlds, rest_stands}
+use Rattle.view_follows.proofs.Stands.{HasReplay, RealReplica, RealWorlds, TellsReplay, rest_stands, same_replay, tick_replays}
 
 -- ---- the events of a view
 
 -- the numbers of all events that were sent on a link, or are to be sent next
-abbrev numbers_on : LinkTalk → List ClientFrame → List ℕ
+abbrev pub numbers_on : LinkTalk → List ClientFrame → List ℕ
 numbers_on link frames = numbers_in (map (whole client_at) link.sent) ++ numbers_in (map Some frames)
 
 -- those behind `start` were sent since the Sync, and so many of them were answered
-record HasGiven (r : RealReplica) (start done : ℕ) (numbers : List ℕ) : Type 0 where
+pub record HasGiven (r : RealReplica) (start done : ℕ) (numbers : List ℕ) : Type 0 where
   up : CountUp start numbers
   given : start + length numbers ≡ r.given
   acknowledged : start + done ≡ r.acknowledged
@@ -172,12 +172,12 @@ module _ (m : RealWorlds) (log : List Entry) (view : ℕ) where
     pub follows : FollowsLog m log r
 
   -- nothing was heard, or that something is refused
-  abbrev NoSync : List (Option ServerFrame) → Type 0
+  abbrev pub NoSync : List (Option ServerFrame) → Type 0
   NoSync heard = (heard ≡ []) ⊎ ((about code kept more : ℕ) × (heard ≡ Some (Refused about code kept more) ∷ []))
 
   -- it awaits a Sync: its JOIN was sent first, or is, and no event
-  record Awaits (how : How) (own : RealWorlds) (r : RealReplica) (link : LinkTalk) (frames : List ClientFrame) : Type 0 where
-    knows : Knows own r
+  pub record Awaits (how : How) (own : RealWorlds) (r : RealReplica) (link : LinkTalk) (frames : List ClientFrame) : Type 0 where
+    pub knows : Knows own r
     awaited : r.awaited ≡ Some how
     others : List (Option ClientFrame)
     sent : map (whole client_at) link.sent ++ map Some frames ≡ Some (join_frame m r how) ∷ others
@@ -185,7 +185,7 @@ module _ (m : RealWorlds) (log : List Entry) (view : ℕ) where
     heard : NoSync link.heard
 
   -- it took its Sync, and frames after it
-  record Reads (own : RealWorlds) (r : RealReplica) (link : LinkTalk) (frames : List ClientFrame) : Type 0 where
+  pub record Reads (own : RealWorlds) (r : RealReplica) (link : LinkTalk) (frames : List ClientFrame) : Type 0 where
     same : own ≡ m
     its : r.view ≡ view
     joined : ℕ
@@ -201,7 +201,7 @@ module _ (m : RealWorlds) (log : List Entry) (view : ℕ) where
     start : ℕ
     has : HasGiven r start (dones behind) (numbers_on link frames)
 
-  abbrev StandsFor : Aim → RealWorlds → RealReplica → LinkTalk → List ClientFrame → Type 0
+  abbrev pub StandsFor : Aim → RealWorlds → RealReplica → LinkTalk → List ClientFrame → Type 0
   StandsFor (ToJoin how) own r link frames = Awaits how own r link frames
   StandsFor (ToReach time) own r link frames = Reads own r link frames
   StandsFor ToSettle own r link frames = Reads own r link frames
@@ -209,25 +209,27 @@ module _ (m : RealWorlds) (log : List Entry) (view : ℕ) where
   StandsFor ToSnap own r link frames = Reads own r link frames
   StandsFor (ToSee at) own r link frames = Reads own r link frames
 
-  abbrev StandsTo : Task → RealWorlds → RealReplica → LinkTalk → List ClientFrame → Type 0
+  abbrev pub StandsTo : Task → RealWorlds → RealReplica → LinkTalk → List ClientFrame → Type 0
   StandsTo (Receives aim) own r link frames = StandsFor aim own r link frames
   StandsTo Begins own r link frames = Reads own r link frames
   StandsTo (TellsText text) own r link frames = Reads own r link frames
-  StandsTo Leaves own r link frames = Unit {0}
+  StandsTo Leaves own r link frames = HasReplay m log view r
 
-  abbrev IsNotByPeer : ViewEnd → Type 0
-  IsNotByPeer ending.Peer = ⊥
-  IsNotByPeer end = Unit {0}
+  -- no view is done but by its last line
+  abbrev pub IsOtherEnd : ViewEnd → Type 0
+  IsOtherEnd ending.Peer = ⊥
+  IsOtherEnd ending.Done = ⊥
+  IsOtherEnd end = Unit {0}
 
-  abbrev StandsIn : Phase → LinkTalk → Type 0
+  abbrev pub StandsIn : Phase → LinkTalk → Type 0
   StandsIn (Connecting v how) link = Knows v.worlds v.replica
   StandsIn (Sending v frame frames task) link = StandsTo task v.worlds v.replica link (frame ∷ frames)
   StandsIn (Receiving v aim) link = StandsFor aim v.worlds v.replica link []
   StandsIn (Printing v text) link = Reads v.worlds v.replica link []
-  StandsIn (Leaving v text) link = Unit {0}
-  StandsIn (PrintingLast line) link = Unit {0}
+  StandsIn (Leaving v text) link = HasReplay m log view v.replica
+  StandsIn (PrintingLast line) link = TellsReplay m log view line
   StandsIn (Returning v how) link = Knows v.worlds v.replica
-  StandsIn (Over end) link = IsNotByPeer end
+  StandsIn (Over end) link = IsOtherEnd end
 
   if_phase : (test : Bool) (p q : Phase) (link : LinkTalk) → StandsIn p link → StandsIn q link → StandsIn (if test then p else q) link
   if_phase true p q link first second = first
@@ -291,7 +293,7 @@ module _ (m : RealWorlds) (log : List Entry) (view : ℕ) where
       (subst (HasGiven (gives r) reads.start (dones reads.behind)) (all_sent link (numbers_in (map Some (unsent r))))
       (gives_given r reads.start (dones reads.behind) (numbers_on link []) reads.stands.synced reads.has))
 
-  reads_know : (own : RealWorlds) (r : RealReplica) (link : LinkTalk) → Reads own r link [] → Knows own r
+  pub reads_know : (own : RealWorlds) (r : RealReplica) (link : LinkTalk) → Reads own r link [] → Knows own r
   reads_know own r link reads = record { same = reads.same; its = reads.its; follows = reads.stands.follows }
 
   reach_stands : (v : Viewer) (time : ℕ) (link : LinkTalk) → Reads v.worlds v.replica link [] → StandsIn (receive v (ToReach time)) link
@@ -309,19 +311,25 @@ module _ (m : RealWorlds) (log : List Entry) (view : ℕ) where
   receive_stands v ToSnap link stands = stands
   receive_stands v (ToSee at) link stands = stands
 
-  begin_stands : (v : Viewer) (task : Task) (link : LinkTalk) → StandsTo task v.worlds v.replica link [] → StandsIn (begin_task v task) link
+  pub begin_stands : (v : Viewer) (task : Task) (link : LinkTalk) → StandsTo task v.worlds v.replica link [] → StandsIn (begin_task v task) link
   begin_stands v (Receives aim) link stands = receive_stands v aim link stands
   begin_stands v Begins link stands = stands
   begin_stands v (TellsText text) link stands = reads_told v.worlds v.replica link stands
-  begin_stands v Leaves link stands = tt
+  begin_stands v Leaves link stands = record { replica = v.replica; has = stands; told = refl }
 
   send_stands : (v : Viewer) (frames : List ClientFrame) (task : Task) (link : LinkTalk) → StandsTo task v.worlds v.replica link frames → StandsIn (send_all v frames task) link
   send_stands v [] task link stands = begin_stands v task link stands
   send_stands v (frame ∷ frames) task link stands = stands
 
-  leave_stands : (v : Viewer) (link : LinkTalk) → StandsIn (leave_session v) link
+  leave_replays : AreWorlds m → IsLegal log → (own : RealWorlds) (r : RealReplica) (link : LinkTalk) → Reads own r link [] → HasReplay m log view (takes_out (rested own r))
+  leave_replays laws legal own r link reads =
+      let has = tick_replays m log view laws legal r reads.stands.synced reads.stands.follows reads.its in
+      subst (λ (w : RealWorlds). HasReplay m log view (takes_out (rested w r))) (sym reads.same)
+      (same_replay m log view (rested m r) (takes_out (rested m r)) (record { world = refl; seen = refl; broken = refl; synced = refl }) refl has)
+
+  pub leave_stands : AreWorlds m → IsLegal log → (v : Viewer) (link : LinkTalk) → Reads v.worlds v.replica link [] → StandsIn (leave_session v) link
   unfolding leave_session
-  leave_stands v link = tt
+  leave_stands laws legal v link reads = leave_replays laws legal v.worlds v.replica link reads
 
   vote_stands : (has : Bool) (v : Viewer) (at : ℕ) (link : LinkTalk) → Reads v.worlds v.replica link [] → StandsIn (vote_by has v at) link
   vote_stands true v at link reads = reads_told v.worlds v.replica link reads
@@ -351,8 +359,8 @@ module _ (m : RealWorlds) (log : List Entry) (view : ℕ) where
   unfolding show_world
   show_stands laws legal v link reads = reads_told v.worlds (rested v.worlds v.replica) link (reads_rested laws legal v.worlds v.replica link reads)
 
-  run_stands : AreWorlds m → IsLegal log → (v : Viewer) (lines : List PlainLine) (link : LinkTalk) → Reads v.worlds v.replica link [] → StandsIn (run v lines) link
-  run_stands laws legal v [] link reads = leave_stands v link
+  pub run_stands : AreWorlds m → IsLegal log → (v : Viewer) (lines : List PlainLine) (link : LinkTalk) → Reads v.worlds v.replica link [] → StandsIn (run v lines) link
+  run_stands laws legal v [] link reads = leave_stands laws legal v link reads
   run_stands laws legal v (Publish scope event value ∷ rest) link reads =
       let payload = payload_spelling (record { scope = scope; event = event; value = value }) in
       let w = after_publish (with_lines v rest) payload in
@@ -363,7 +371,7 @@ module _ (m : RealWorlds) (log : List Entry) (view : ℕ) where
   run_stands laws legal v (Settle ∷ rest) link reads = send_stands (after_giving (with_lines v rest)) (unsent v.replica) (Receives ToSettle) link (reads_given v.worlds v.replica link reads)
   run_stands laws legal v (Snap ∷ rest) link reads = with_events v.worlds v.replica v.replica link [] _ (record { world = refl; seen = refl; broken = refl; synced = refl }) refl reads reads.has
   run_stands laws legal v (Cut ∷ rest) link reads = reads_know v.worlds v.replica link reads
-  run_stands laws legal v (Quit ∷ rest) link reads = leave_stands (with_lines v rest) link
+  run_stands laws legal v (Quit ∷ rest) link reads = leave_stands laws legal (with_lines v rest) link reads
   run_stands laws legal v (Mark word ∷ rest) link reads = reads_told v.worlds v.replica link reads
   run_stands laws legal v (Vote at ∷ rest) link reads = vote_stands (nat_le at v.replica.seen) (with_lines v rest) at link reads
   run_stands laws legal v (Show ∷ rest) link reads = show_stands laws legal (with_lines v rest) link reads
@@ -472,7 +480,7 @@ module _ (m : RealWorlds) (log : List Entry) (view : ℕ) where
 
   -- ---- a frame is heard after the Sync
 
-  abbrev heard_more : LinkTalk → Option ServerFrame → LinkTalk
+  abbrev pub heard_more : LinkTalk → Option ServerFrame → LinkTalk
   heard_more link found = record link { heard = link.heard ++ found ∷ [] }
 
   -- what the log serves with this frame
@@ -697,21 +705,21 @@ module _ (m : RealWorlds) (log : List Entry) (view : ℕ) where
     go_on_stands v (ToSee at) link stands = go_on_reads v [] (Receives (ToSee at)) link (λ more r. r) stands
 
     -- what this step adds to the link in use
-    abbrev behind_step : LinkTalk → Step → LinkTalk
+    abbrev pub behind_step : LinkTalk → Step → LinkTalk
     behind_step link (Connects address) = new_link
     behind_step link (Sends bytes) = record link { sent = link.sent ++ bytes ∷ [] }
     behind_step link (Hears (said.Frame bytes)) = heard_more link (whole server_at bytes)
     behind_step link step = link
 
-    abbrev IsAnsweredAt : LinkTalk → Step → Type 0
+    abbrev pub IsAnsweredAt : LinkTalk → Step → Type 0
     IsAnsweredAt link (Hears (said.Frame bytes)) = IsAnswered m log (heard_more link (whole server_at bytes))
     IsAnsweredAt link step = Unit {0}
 
-    abbrev CountsAt : Phase → Step → Type 0
+    abbrev pub CountsAt : Phase → Step → Type 0
     CountsAt (Receiving v aim) (Hears (said.Frame bytes)) = CountsEvents v.replica (whole server_at bytes)
     CountsAt phase step = Unit {0}
 
-    hearing_stands : (v : Viewer) (aim : Aim) (what : Heard) (next : Phase) (link : LinkTalk) → StandsFor aim v.worlds v.replica link [] → IsAnsweredAt link (Hears what) → CountsAt (Receiving v aim) (Hears what) → Hearing v aim what next
+    pub hearing_stands : (v : Viewer) (aim : Aim) (what : Heard) (next : Phase) (link : LinkTalk) → StandsFor aim v.worlds v.replica link [] → IsAnsweredAt link (Hears what) → CountsAt (Receiving v aim) (Hears what) → Hearing v aim what next
         → StandsIn next (behind_step link (Hears what))
     hearing_stands v aim (said.Frame bytes) next link stands answered counts is =
         subst (λ (p : Phase). StandsIn p (heard_more link (whole server_at bytes))) (sym is) (found_stands (heard_frame v) aim (whole server_at bytes) link stands answered counts)
@@ -766,15 +774,15 @@ module _ (m : RealWorlds) (log : List Entry) (view : ℕ) where
     sends_for ToSnap own r link frame frames bytes is fits reads = sends_read own r link frame frames bytes is fits reads
     sends_for (ToSee at) own r link frame frames bytes is fits reads = sends_read own r link frame frames bytes is fits reads
 
-    sends_to : (task : Task) (own : RealWorlds) (r : RealReplica) (link : LinkTalk) (frame : ClientFrame) (frames : List ClientFrame) (bytes : List ℕ) → bytes ≡ client_spelling frame → IsClientFrame frame → StandsTo task own r link (frame ∷ frames)
+    pub sends_to : (task : Task) (own : RealWorlds) (r : RealReplica) (link : LinkTalk) (frame : ClientFrame) (frames : List ClientFrame) (bytes : List ℕ) → bytes ≡ client_spelling frame → IsClientFrame frame → StandsTo task own r link (frame ∷ frames)
         → StandsTo task own r (record link { sent = link.sent ++ bytes ∷ [] }) frames
     sends_to (Receives aim) own r link frame frames bytes is fits stands = sends_for aim own r link frame frames bytes is fits stands
     sends_to Begins own r link frame frames bytes is fits reads = sends_read own r link frame frames bytes is fits reads
     sends_to (TellsText text) own r link frame frames bytes is fits reads = sends_read own r link frame frames bytes is fits reads
-    sends_to Leaves own r link frame frames bytes is fits stands = tt
+    sends_to Leaves own r link frame frames bytes is fits stands = stands
 
     -- the view sends its JOIN first
-    enters : (v : Viewer) (how : How) → Knows v.worlds v.replica → StandsIn (enter_session v how) new_link
+    pub enters : (v : Viewer) (how : How) → Knows v.worlds v.replica → StandsIn (enter_session v how) new_link
     enters v how knows = record {
       knows = record { same = knows.same; its = knows.its; follows = record { whole = knows.follows.whole; valid = knows.follows.valid; follows = knows.follows.follows; counted = knows.follows.counted } };
       awaited = refl;
@@ -787,28 +795,32 @@ module _ (m : RealWorlds) (log : List Entry) (view : ℕ) where
     at_next : (next to : Phase) (link : LinkTalk) → next ≡ to → StandsIn to link → StandsIn next link
     at_next next to link is stands = subst (λ (p : Phase). StandsIn p link) (sym is) stands
 
-    move_stands : (from : Phase) (step : Step) (next : Phase) (link : LinkTalk) → StandsIn from link → IsAnsweredAt link step → CountsAt from step → Moves from step next → StandsIn next (behind_step link step)
-    move_stands (Connecting v how) (Connects address) next link stands answered counts moves = at_next next (enter_session v how) new_link moves.1 (enters v how stands)
-    move_stands (Connecting v how) step next link stands answered counts moves = absurd moves
-    move_stands (Sending v frame frames task) (Sends bytes) next link stands answered counts moves =
+    -- its last line is not to be printed
+    abbrev IsNotLast : Phase → Type 0
+    IsNotLast (PrintingLast text) = ⊥
+    IsNotLast phase = Unit {0}
+
+    move_stands : (from : Phase) (step : Step) (next : Phase) (link : LinkTalk) → IsNotLast from → StandsIn from link → IsAnsweredAt link step → CountsAt from step → Moves from step next → StandsIn next (behind_step link step)
+    move_stands (Connecting v how) (Connects address) next link other stands answered counts moves = at_next next (enter_session v how) new_link moves.1 (enters v how stands)
+    move_stands (Connecting v how) step next link other stands answered counts moves = absurd moves
+    move_stands (Sending v frame frames task) (Sends bytes) next link other stands answered counts moves =
         at_next next _ (record link { sent = link.sent ++ bytes ∷ [] }) moves.3
         (send_stands (record v { receives = 0 }) frames task (record link { sent = link.sent ++ bytes ∷ [] }) (sends_to task v.worlds v.replica link frame frames bytes moves.0 moves.1 stands))
-    move_stands (Sending v frame frames task) step next link stands answered counts moves = absurd moves
-    move_stands (Receiving v aim) (Hears what) next link stands answered counts moves = hearing_stands v aim what next link stands answered counts moves
-    move_stands (Receiving v aim) step next link stands answered counts moves = absurd moves
-    move_stands (Printing v text) (Prints piece) next link stands answered counts moves = at_next next (run v v.lines) link moves.1 (run_stands laws legal v v.lines link stands)
-    move_stands (Printing v text) step next link stands answered counts moves = absurd moves
-    move_stands (Leaving v text) (Prints piece) next link stands answered counts moves = at_next next _ link moves.1 tt
-    move_stands (Leaving v text) step next link stands answered counts moves = absurd moves
-    move_stands (PrintingLast text) (Prints piece) next link stands answered counts moves = at_next next (Over ending.Done) link moves.1 tt
-    move_stands (PrintingLast text) step next link stands answered counts moves = absurd moves
-    move_stands (Returning v how) Returns next link stands answered counts moves = at_next next (Connecting v how) link moves stands
-    move_stands (Returning v how) step next link stands answered counts moves = absurd moves
-    move_stands (Over end) step next link stands answered counts moves = absurd moves
+    move_stands (Sending v frame frames task) step next link other stands answered counts moves = absurd moves
+    move_stands (Receiving v aim) (Hears what) next link other stands answered counts moves = hearing_stands v aim what next link stands answered counts moves
+    move_stands (Receiving v aim) step next link other stands answered counts moves = absurd moves
+    move_stands (Printing v text) (Prints piece) next link other stands answered counts moves = at_next next (run v v.lines) link moves.1 (run_stands laws legal v v.lines link stands)
+    move_stands (Printing v text) step next link other stands answered counts moves = absurd moves
+    move_stands (Leaving v text) (Prints piece) next link other stands answered counts moves = at_next next _ link moves.1 stands
+    move_stands (Leaving v text) step next link other stands answered counts moves = absurd moves
+    move_stands (PrintingLast text) step next link other stands answered counts moves = absurd other
+    move_stands (Returning v how) Returns next link other stands answered counts moves = at_next next (Connecting v how) link moves stands
+    move_stands (Returning v how) step next link other stands answered counts moves = absurd moves
+    move_stands (Over end) step next link other stands answered counts moves = absurd moves
 
     -- ---- a walk
 
-    first_answered : (link : LinkTalk) (step : Step) (steps : List Step) → AreAnswered m log link (step ∷ steps) → IsAnsweredAt link step × AreAnswered m log (behind_step link step) steps
+    pub first_answered : (link : LinkTalk) (step : Step) (steps : List Step) → AreAnswered m log link (step ∷ steps) → IsAnsweredAt link step × AreAnswered m log (behind_step link step) steps
     first_answered link (Connects address) steps answered = (tt, answered)
     first_answered link (Sends bytes) steps answered = (tt, answered)
     first_answered link (Hears (said.Frame bytes)) steps answered = answered
@@ -828,11 +840,17 @@ module _ (m : RealWorlds) (log : List Entry) (view : ℕ) where
     is_peer : (from : Phase) (link : LinkTalk) → StandsIn from link → from ≡ Over ending.Peer → ⊥
     is_peer from link stands is = subst (λ (p : Phase). StandsIn p link) is stands
 
+    done_no_peer : (steps : List Step) → Walks (Over ending.Done) steps (Over ending.Peer) → ⊥
+    done_no_peer [] is = absurd cc
+    done_no_peer (step ∷ steps) (next, moves, walks) = moves
+
     never_by_peer : (from : Phase) (steps : List Step) (link : LinkTalk) → StandsIn from link → AreAnswered m log link steps → SyncsCountEvents from steps → Walks from steps (Over ending.Peer) → ⊥
     never_by_peer from [] link stands answered counts walks = is_peer from link stands walks
+    never_by_peer (PrintingLast text) (Prints piece ∷ steps) link stands answered counts (next, moves, walks) = done_no_peer steps (subst (λ (p : Phase). Walks p steps (Over ending.Peer)) moves.1 walks)
+    never_by_peer (PrintingLast text) (step ∷ steps) link stands answered counts (next, moves, walks) = absurd moves
     never_by_peer from (step ∷ steps) link stands answered counts (next, moves, walks) =
         let first = first_answered link step steps answered in
-        never_by_peer next steps (behind_step link step) (move_stands from step next link stands first.0 (first_counts from step steps counts) moves) first.1 (others_count from step next steps moves counts) walks
+        never_by_peer next steps (behind_step link step) (move_stands from step next link tt stands first.0 (first_counts from step steps counts) moves) first.1 (others_count from step next steps moves counts) walks
 
     -- a view whose links are answered never ends by its peer
     pub joins_never_by_peer : (v : Viewer) (how : How) (steps : List Step) → Knows v.worlds v.replica → AreAnswered m log new_link steps → SyncsCountEvents (Connecting v how) steps → Walks (Connecting v how) steps (Over ending.Peer) → ⊥

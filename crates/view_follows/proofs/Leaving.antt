@@ -16,7 +16,7 @@ use Rattle.session_journal.specs.declared.change.Change.{Change}
 use Rattle.session_journal.specs.declared.change.Change.TheVariants.{Came, Kept, Reached}
 use Rattle.session_journal.specs.Journal.{AreBytes, Goes, ReadsFirst, journal_check, journal_spelling, read_journal}
 use Rattle.session_journal.specs.Frames.{Place}
-use Rattle.session_journal.specs.Keeper.{KeeperState, Keeps, keeper_state}
+use Rattle.session_journal.specs.Keeper.{Keeps}
 use Rattle.session_journal.specs.State.{GoesOn, after_change, founded, has_room, journal_after}
 use Rattle.session_journal.proofs.FrameLaws.{IsBytes-after}
 use Rattle.session_journal.proofs.JournalLaws.{after_both}
@@ -33,7 +33,7 @@ abbrev pub RecordsFirst : Type 0
 RecordsFirst = (id : List ℕ) (changes : List Change) (tail : List ℕ) → GoesOn founded changes → AreBytes tail → ReadsFirst id changes tail
 
 abbrev pub SafeRead : Type 0
-SafeRead = (id bytes : List ℕ) (safe : ℕ) (keeper : KeeperState) (state : PlainStored) → Keeps id (Some bytes) safe keeper state → ReadsAs id (take safe bytes) state
+SafeRead = (id bytes : List ℕ) (safe : ℕ) (state : PlainStored) → Keeps id (Some bytes) safe state → ReadsAs id (take safe bytes) state
 
 -- ---- records behind those that were safe
 
@@ -92,8 +92,8 @@ module _ {C L S : Type 0} (told : S → Option (List ℕ)) (safe : S → ℕ) (r
   abbrev state : PlainStored
   state = held.holds.is_held.state
 
-  keeps : Keeps id (Some bytes) count (keeper_state keeper.journal) state
-  keeps = subst (λ (b : Option (List ℕ)). Keeps id b count (keeper_state keeper.journal) state) tells held.holds.is_held.is_kept
+  keeps : Keeps id (Some bytes) count state
+  keeps = subst (λ (b : Option (List ℕ)). Keeps id b count state) tells held.holds.is_held.is_kept
 
   spelled : take count bytes ≡ journal_spelling id keeps.changes
   spelled = ap (take count) keeps.safe_are.1 ∙ take_at (journal_spelling id keeps.changes) keeps.safe_are.0 count (sym keeps.safe_are.2)
@@ -137,7 +137,7 @@ module _ {C L S : Type 0} (told : S → Option (List ℕ)) (safe : S → ℕ) (r
 
   pub safe_left : SafeRead → SafeIsLeft id (take count bytes) run
   safe_left read =
-      let r = read id bytes count (keeper_state keeper.journal) state keeps in
+      let r = read id bytes count state keeps in
       record { place = record { state = state; check = r.0; rest = [] }; read = r.1; leaves = may_leave run state held_stored held_comes }
 
 pub journals_leave : {C L S : Type 0} (told : S → Option (List ℕ)) (safe : S → ℕ) → RecordsFirst → JournalsLeave C L told safe

@@ -2,6 +2,7 @@ pub mod SnapSpellings
 pub mod Lists
 pub mod Offering
 pub mod Stands
+pub mod Replays
 pub mod Walking
 pub mod Shown
 pub mod Meeting
@@ -18,3 +19,4 @@ pub mod Heard
 pub mod Answering
 pub mod Endings
 pub mod LiveEnds
+pub mod LiveAnswering

@@ -160,7 +160,7 @@ module _ (m : RealWorlds) (log : List Entry) (view : ℕ) where
 
   -- ---- rest
 
-  same_replay : (r other : RealReplica) → SameWorld r other → other.view ≡ r.view → HasReplay m log view r → HasReplay m log view other
+  pub same_replay : (r other : RealReplica) → SameWorld r other → other.view ≡ r.view → HasReplay m log view r → HasReplay m log view other
   same_replay r other same kept has =
       let own = has.follows in
       record {
@@ -169,7 +169,7 @@ module _ (m : RealWorlds) (log : List Entry) (view : ℕ) where
         replayed = rw same.world has.replayed;
       }
 
-  tick_replays : AreWorlds m → IsLegal log → (r : RealReplica) → r.synced ≡ true → FollowsLog m log r → r.view ≡ view → HasReplay m log view (taken m r (Tick (m.time r.world))).replica
+  pub tick_replays : AreWorlds m → IsLegal log → (r : RealReplica) → r.synced ≡ true → FollowsLog m log r → r.view ≡ view → HasReplay m log view (taken m r (Tick (m.time r.world))).replica
   tick_replays laws legal r synced own its =
       let t = m.time r.world in
       let forward : nat_lt t t ≡ false = grind (arith, nat_tests) in

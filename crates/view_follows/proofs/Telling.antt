@@ -12,10 +12,9 @@ use Rattle.reflect_server.specs.declared.reflection.KeptFault.{KeptFault}
 use Rattle.reflect_server.specs.declared.reflection.KeptFault.TheVariants as kept_fault
 use Rattle.reflect_server.specs.declared.reflection.Reflected.{Reflected}
 use Rattle.reflect_server.specs.declared.reflection.ServeFault.TheVariants.{ListenFault, WantOfMemory}
-use Rattle.reflect_server.specs.Connections.{ServedConnection}
 use Rattle.reflect_server.specs.Keeping.{HasNotOpened, HasOnlyOpened, HasOpenedAtMost, KeeperTells, no_keeper}
 use Rattle.reflect_server.specs.Opening.{AreLeavesOf, IsLeaveOf, gives_later}
-use Rattle.reflect_server.specs.Reflects.{HasReflected, HasServed, HasWanted, ReflectsKept, ReturnsLinks}
+use Rattle.reflect_server.specs.Reflects.{HasReflected, HasWanted, ReflectsKept, ReturnsLinks}
 use Rattle.reflect_server.specs.Rounds.{TakesAll}
 use Rattle.connection.proofs.Talking.{with_more_none}
 use Rattle.run_steps.specs.Outside.{LinksTell, NetTells}
@@ -91,24 +90,10 @@ module _ {C N L : Type 0} (gives : C → ℕ → Type 0) (tells : NetTells N L) 
   no_links : (net : N) → ReturnsLinks tells links net net []
   no_links net = record { coming = stays_told (tells.coming net); over = sym (with_more_none (tells.over net)); lent = refl; counts = refl }
 
+  wanted_tells : (calls : List NetCall) (before now : N) → HasWanted gives_in opening kept tells links calls before now → Tells before now (Err kept_fault.WantOfMemory)
+  wanted_tells calls before now wanted = only_tells before now kept_fault.WantOfMemory (opens_most wanted.opened) wanted.net
+
   -- ---- with links
-
-  served_tells : (before now : N) (connections : List (ServedConnection L)) (fault : KeptFault) → HasServed gives_in id opening kept links connections → ReturnsLinks tells links before now connections → Tells before now (Err fault)
-  served_tells before now connections fault served net = record {
-    run = record { clock = clock; opening = opening; connections = connections; history = served.history; session = play_from opening served.history };
-    its_clock = refl;
-    begins = refl;
-    ran = record { did = inl (record { opener = served.opener; talks = served.talks; sound = served.sound }); play = refl };
-    net = net;
-    keeps = served.keeps;
-    comes_to = tt;
-  }
-
-  wanted_tells : (calls : List NetCall) (count : ℕ) (before now : N) → HasWanted gives_in id opening kept tells links calls count before now → Tells before now (Err kept_fault.WantOfMemory)
-  wanted_tells calls count before now wanted = elim wanted.served [
-    | inl none ↦ only_tells before now kept_fault.WantOfMemory (opens_most none.1) (subst (ReturnsLinks tells links before now) none.0 wanted.net)
-    | inr served ↦ served_tells before now wanted.connections kept_fault.WantOfMemory served wanted.net
-  ]
 
   reflected_tells : (calls : List NetCall) (count : ℕ) (before now : N) (reflected : Reflected) → HasReflected gives_in id opening kept tells links calls count before now reflected → Tells before now (Ok reflected)
   reflected_tells calls count before now reflected has = record {
@@ -124,11 +109,11 @@ module _ {C N L : Type 0} (gives : C → ℕ → Type 0) (tells : NetTells N L) 
   pub kept_tells : (calls : List NetCall) (count : ℕ) (before now : N) (answer : Result Reflected KeptFault) → ReflectsKept gives_in id opening kept tells links calls count before now answer → Tells before now answer
   kept_tells calls count before now (Ok reflected) has = reflected_tells calls count before now reflected has
   kept_tells calls count before now (Err kept_fault.ListenFault) has = only_tells before now kept_fault.ListenFault (opens_only has.opened) has.net
-  kept_tells calls count before now (Err kept_fault.WantOfMemory) has = wanted_tells calls count before now has
+  kept_tells calls count before now (Err kept_fault.WantOfMemory) has = wanted_tells calls before now has
   kept_tells calls count before now (Err kept_fault.Unkept) has =
       only_tells before now kept_fault.Unkept (opens_not has.1) (subst (λ (net : N). ReturnsLinks tells links before net []) (sym has.0) (no_links before))
 
 pub answers_tell : {C N L : Type 0} (gives : C → ℕ → Type 0) (tells : NetTells N L) (links : LinksTell L) → AnswersTellOfRuns gives tells links
 answers_tell gives tells links id clock opening calls count before now (Ok reflected) has = reflected_tells gives tells links id clock opening no_keeper calls count before now reflected has
 answers_tell gives tells links id clock opening calls count before now (Err ListenFault) has = kept_tells gives tells links id clock opening no_keeper calls count before now (Err kept_fault.ListenFault) has
-answers_tell gives tells links id clock opening calls count before now (Err WantOfMemory) has = wanted_tells gives tells links id clock opening no_keeper calls count before now has
+answers_tell gives tells links id clock opening calls count before now (Err WantOfMemory) has = wanted_tells gives tells links id clock opening no_keeper calls before now has

@@ -6,5 +6,6 @@ pub mod Sessions
 pub mod SessionsReplay
 pub mod Answered
 pub mod LiveEnds
+pub mod LiveAnswers
 pub mod AnyEnds
 pub mod Journals

@@ -3,6 +3,7 @@ ghost use Rattle.run_steps.specs.Outside.{links_tell, net_tells};
 ghost use Rattle.view_follows.specs.AnyEnds.{OfRunsOfViews, RunsLiveOn};
 ghost use Rattle.view_follows.specs.Answered.{AnsweredVisitsHaveNoFault, VisitsEndByRefusals, VisitsEndWithLinks};
 ghost use Rattle.view_follows.specs.BothEnds.{LinksMeet};
+ghost use Rattle.view_follows.specs.LiveAnswers.{AnsweredLiveViewsHaveNoFault, AnsweredLiveViewsReplay};
 ghost use Rattle.view_follows.specs.LiveEnds.{LiveViewsEndByFaults, LiveViewsEndByPeers, LiveViewsEndByRefusals, LiveViewsEndWithLinks};
 ghost use Rattle.view_follows.specs.Journals.{AnswersTellOfRuns, JournalRunsFollow, JournalsLeave, KeptAnswersTellOfRuns, SafeBytesLeave};
 ghost use Rattle.view_follows.specs.SessionsReplay.{EndsViews, KeepHonest, OfViewRuns, ServesViews};
@@ -44,12 +45,19 @@ pub fn ends_are_caused()
 /// Which links keep a live view from an end that is not its lines'. It does not end with `Ended` where no link said that it has ended, or was quiet
 /// 6,000 times in a row; nor with `Refused` where nothing was refused but a snapshot; nor with `NetFault` where each link that it wanted was made,
 /// and none failed; nor with `Peer` where each frame that it heard was one of a reflector, and its replica found no fault of order or of a base in it.
+/// Nor with `Peer` where one legal log answered its links as `ends_are_caused` says of a script, and each frame that it sent fits the wire. So answered, and done,
+/// it printed last the line of the replay of this log.
 pub fn live_ends_are_caused()
     ensures ended { LiveViewsEndWithLinks }
     ensures refused { LiveViewsEndByRefusals }
     ensures failed { LiveViewsEndByFaults }
     ensures peer { LiveViewsEndByPeers }
-{}
+    ensures answered { AnsweredLiveViewsHaveNoFault }
+    ensures replays { AnsweredLiveViewsReplay }
+{
+    worlds_stand();
+    worlds_replay();
+}
 
 /// A link that a log serves at the reflector's end is served by it at the view's, also where a cut lost the end of what went either way.
 pub fn links_meet()

@@ -12,7 +12,7 @@ use Rattle.world_plain.specs.Messages.{PlainOutgoing}
 use Rattle.world_plain.specs.World.{WorldRecord}
 use Rattle.replica_plain.specs.PlainReplica.{PlainReplica}
 use Rattle.replica_plain.specs.Calls.{sends_after, unsent}
-use Rattle.run_steps.specs.Steps.{Step, Loads, Puts, Prints, Connects, Returns, Hears, Sends}
+use Rattle.run_steps.specs.Steps.{Step, Loads, Puts, Looks, Prints, Connects, Returns, Hears, Sends}
 use Rattle.run_steps.specs.Outside.{Outside, OutsideTells, OutputTells, LinksTell, Came, Well, Failed, WantedMemory, Cut, Acts, ActsOn, SendsFrame, window, window_tells}
 use Rattle.run_steps.proofs.Joined.{acts_behind}
 use Rattle.view_shell.specs.declared.ending.ViewEnd.{ViewEnd}
@@ -118,6 +118,7 @@ module _ {W L : Type 0} (out : OutputTells W) (links : LinksTell L) (w : W) wher
   acts_on_window came (Sends frame) old new sends = (sends, refl)
   acts_on_window came (Loads ask given) old new never = absurd never
   acts_on_window came (Puts name bytes) old new never = absurd never
+  acts_on_window came (Looks name) old new never = absurd never
   acts_on_window came (Prints text) old new never = absurd never
   acts_on_window came (Connects address) old new never = absurd never
   acts_on_window came Returns old new never = absurd never

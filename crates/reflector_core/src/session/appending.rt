@@ -82,7 +82,7 @@ impl Session {
         ensures used { UsesAtMost self.old self.new 1 (payload_len (lent_what what.entry)) }
         ensures err { OnErr result (self.new.plain ≡ self.old.plain) }
         ensures cause { EntryFault (K.shut keeper.new) result }
-        ensures pace { KeepsPace K.holds K.shut K.faults keeper.old keeper.new
+        ensures pace { KeepsPace K.holds K.writes K.settled K.shut K.faults keeper.old keeper.new
             self.old.plain self.new.plain }
     {
         make_room(&mut self.log, &mut self.resend, 1, payload_len(what))?;

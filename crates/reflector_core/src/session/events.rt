@@ -45,7 +45,7 @@ impl Session {
         ensures err { OnErr result (self.new.plain ≡ self.old.plain) }
         ensures cause { HasCause (send_event self.old.plain sent.entry.view sent.entry.joined sent.entry.number sent.entry.payload.now sent.entry.now).reply
             (K.shut keeper.new) result }
-        ensures pace { KeepsPace K.holds K.shut K.faults keeper.old keeper.new
+        ensures pace { KeepsPace K.holds K.writes K.settled K.shut K.faults keeper.old keeper.new
             self.old.plain self.new.plain }
     {
         let Sent {
@@ -137,7 +137,7 @@ impl Session {
         ensures used { UsesAtMost self.old self.new 1 (length payload.now) }
         ensures err { OnErr result (self.new.plain ≡ self.old.plain) }
         ensures cause { HasCause (stamps self.old.plain view number payload.now now).reply (K.shut keeper.new) result }
-        ensures pace { KeepsPace K.holds K.shut K.faults keeper.old keeper.new
+        ensures pace { KeepsPace K.holds K.writes K.settled K.shut K.faults keeper.old keeper.new
             self.old.plain self.new.plain }
     {
         // opens the session, whose invariant tells that it is sound

@@ -60,7 +60,7 @@ impl Session {
         ensures used { UsesAtMost self.old self.new 1 0 }
         ensures err { OnErr result (self.new.plain ≡ self.old.plain) }
         ensures cause { HasCause (join self.old.plain view now want).reply (K.shut keeper.new) result }
-        ensures pace { KeepsPace K.holds K.shut K.faults keeper.old keeper.new
+        ensures pace { KeepsPace K.holds K.writes K.settled K.shut K.faults keeper.old keeper.new
             self.old.plain self.new.plain }
     {
         if view == 0 {
@@ -105,7 +105,7 @@ impl Session {
         ensures used { UsesAtMost self.old self.new 1 0 }
         ensures err { OnErr result (self.new.plain ≡ self.old.plain) }
         ensures cause { HasCause (joins self.old.plain view now want).reply (K.shut keeper.new) result }
-        ensures pace { KeepsPace K.holds K.shut K.faults keeper.old keeper.new
+        ensures pace { KeepsPace K.holds K.writes K.settled K.shut K.faults keeper.old keeper.new
             self.old.plain self.new.plain }
     {
         // opens the session, whose invariant tells that it is sound
@@ -140,7 +140,7 @@ impl Session {
         ensures used { UsesAtMost self.old self.new 1 0 }
         ensures err { OnErr result (self.new.plain ≡ self.old.plain) }
         ensures cause { HasCause (leave self.old.plain view joined now).reply (K.shut keeper.new) result }
-        ensures pace { KeepsPace K.holds K.shut K.faults keeper.old keeper.new
+        ensures pace { KeepsPace K.holds K.writes K.settled K.shut K.faults keeper.old keeper.new
             self.old.plain self.new.plain }
     {
         if self.is_stale(view, joined) {

@@ -134,7 +134,7 @@ fn lent_kept(base: &Option<Base>) -> Option<LentKept<'_>>
 }
 
 /// What the table notes of an entry.
-fn noted_kind(kind: EntryKind) -> Kind
+pub(super) fn noted_kind(kind: EntryKind) -> Kind
     ensures { result ≡ noted_kind kind }
 {
     match kind {

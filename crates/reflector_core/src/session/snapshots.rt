@@ -29,7 +29,7 @@ impl Session {
         ensures err { OnErr result (self.new.plain ≡ self.old.plain) }
         ensures cause { HasCause (offer self.old.plain view joined time bytes.now).reply
             (K.shut keeper.new) result }
-        ensures pace { KeepsPace K.holds K.shut K.faults keeper.old keeper.new
+        ensures pace { KeepsPace K.holds K.writes K.settled K.shut K.faults keeper.old keeper.new
             self.old.plain self.new.plain }
     {
         if self.is_stale(view, joined) {
@@ -67,7 +67,7 @@ impl Session {
         ensures used { UsesAtMost self.old self.new 0 0 }
         ensures err { OnErr result (self.new.plain ≡ self.old.plain) }
         ensures cause { HasCause Reply.Kept (K.shut keeper.new) result }
-        ensures pace { KeepsPace K.holds K.shut K.faults keeper.old keeper.new
+        ensures pace { KeepsPace K.holds K.writes K.settled K.shut K.faults keeper.old keeper.new
             self.old.plain self.new.plain }
     {
         let Ok(copied) = bytes.clone() else {

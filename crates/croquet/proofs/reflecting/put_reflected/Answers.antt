@@ -6,12 +6,12 @@ use Rattle.croquet.proofs.reflecting.put_reflected.Goals as goal
 pub returns-in-Ok : goal.returns-in-Ok
 returns-in-Ok g c =
     let session = c.args.reflected.now.session.plain in
-    let next : Coming = Only (reflected_verdict c.args.reflected.now.ends session c.args.unkept c.args.reflected.now.net_failed) in
+    let next : Coming = Only (reflected_verdict c.args.reflected.now.ends session c.args.unkept c.args.reflected.now.stopped) in
     ran_put _ _ (reflected_put c.args.place.name session) (Free next) c.args.files.now c.put_or_tell.new.files c.give_ends.new.files c.args.out.now c.put_or_tell.new.out c.give_ends.new.out c.give_ends.result
     c.in-Ok.ensures.quiet (rw c.reflected_put-put.ensures at c.in-Ok.ensures.put) c.give_ends.ensures
 
 pub returns : goal.returns
 returns g c =
     let session = c.args.reflected.now.session.plain in
-    let next : Coming = Only (reflected_verdict c.args.reflected.now.ends session c.args.unkept c.args.reflected.now.net_failed) in
+    let next : Coming = Only (reflected_verdict c.args.reflected.now.ends session c.args.unkept c.args.reflected.now.stopped) in
     ran_unput _ _ (reflected_put c.args.place.name session) next c.args.files.now c.put_or_tell.new.files c.args.out.now c.put_or_tell.new.out c.in-Err.status (rw c.reflected_put-put.ensures at c.in-Err.ensures.told)

@@ -40,7 +40,7 @@ pub returns-in-Lives-clause-turns : goal.returns-in-Lives-clause-turns
 returns-in-Lives-clause-turns g t c = rw c.in-Lives.is (record { steps = []; comes = refl; acts = refl })
 
 pub returns-in-Reflects-clause-turns : goal.returns-in-Reflects-clause-turns
-returns-in-Reflects-clause-turns g t c = rw c.in-Reflects.is (record { steps = []; comes = refl; acts = refl })
+returns-in-Reflects-clause-turns g t c = rw c.in-Reflects.is c.ready.ensures.turns
 
 pub returns-in-Keeps-clause-turns : goal.returns-in-Keeps-clause-turns
 returns-in-Keeps-clause-turns g t c = rw c.in-Keeps.is (record { steps = []; comes = refl; acts = refl })

@@ -48,3 +48,9 @@ loop-preserved g c =
             (c.loop.invariant.turned.turns address net) (c.in-Ok.ensures.turned.turns address net);
       };
     }
+
+-- the view is asked before each turn
+pub turn-requires-clause-wants : goal.turn-requires-clause-wants
+turn-requires-clause-wants g c κs within address =
+    let phase = (live_state address c.loop.view).phase in
+    record { is = subst (λ (b : Bool). MatchBool b (wanted phase ≡ want.Input) (wanted phase ≡ want.Input → ⊥)) c.if-not-wants_input.false (c.wants_input.ensures address) }

@@ -14,7 +14,7 @@ returns-in-Err-clause-turned g c =
     (links_tell g.N.Conn.Link.coming g.N.Conn.Link.heard g.N.Conn.Link.sent g.N.Conn.Link.counts) in
     record {
       turns = λ address net. feed_stops tells address c.args.lines (live_state address c.args.view.now) c.args.feed.now c.ask.new.feed c.args.out.now net (Some c.args.link.now) c.in-Err.fault c.read_end.result
-          c.requires.few c.in-Err.ensures.asked c.read_end.ensures.failed c.read_end.ensures.wanted;
+          (c.requires.wants address) c.requires.few c.in-Err.ensures.asked c.read_end.ensures.failed c.read_end.ensures.wanted;
     }
 
 pub returns-in_default-clause-turned : goal.returns-in_default-clause-turned
@@ -24,7 +24,7 @@ returns-in_default-clause-turned g c =
     (links_tell g.N.Conn.Link.coming g.N.Conn.Link.heard g.N.Conn.Link.sent g.N.Conn.Link.counts) in
     record {
       turns = λ address net. idle_turn tells address c.args.lines 64 (live_state address c.args.view.now) c.args.feed.now c.ask.new.feed c.args.out.now net (Some c.args.link.now)
-          c.requires.few refl (subst (λ (t : Option LiveInput). AsksFeed feed Well (fed_of t) c.args.feed.now c.ask.new.feed) c.in_default.is c.in-Ok.ensures.asked);
+          (c.requires.wants address) c.requires.few refl (subst (λ (t : Option LiveInput). AsksFeed feed Well (fed_of t) c.args.feed.now c.ask.new.feed) c.in_default.is c.in-Ok.ensures.asked);
     }
 
 pub returns-in-Ok-answered-clause-turned : goal.returns-in-Ok-answered-clause-turned
@@ -34,7 +34,7 @@ returns-in-Ok-answered-clause-turned g c =
     (links_tell g.N.Conn.Link.coming g.N.Conn.Link.heard g.N.Conn.Link.sent g.N.Conn.Link.counts) in
     record {
       turns = λ address net. feed_turn tells address c.args.lines c.lines_behind-behind.result (live_state address c.args.view.now) (live_state address c.tell-answered.new.view) c.in-Some.input c.args.feed.now c.ask.new.feed net c.args.out.now c.tell-answered.new.out
-          c.args.link.now c.tell-answered.new.link c.tell-answered.result c.in-Ok-answered.field-0 c.in-Ok-answered.is c.requires.few (sym c.lines_behind-behind.ensures) (subst IsFed c.in-Some.is c.in-Ok.ensures.told)
+          c.args.link.now c.tell-answered.new.link c.tell-answered.result c.in-Ok-answered.field-0 c.in-Ok-answered.is (c.requires.wants address) c.requires.few (sym c.lines_behind-behind.ensures) (subst IsFed c.in-Some.is c.in-Ok.ensures.told)
           (subst (λ (t : Option LiveInput). AsksFeed feed Well (fed_of t) c.args.feed.now c.ask.new.feed) c.in-Some.is c.in-Ok.ensures.asked) (c.tell-answered.ensures.told address) (c.in-Ok-answered.ensures.state address);
     }
 
@@ -45,6 +45,6 @@ returns-in-Err-answered-clause-turned g c =
     (links_tell g.N.Conn.Link.coming g.N.Conn.Link.heard g.N.Conn.Link.sent g.N.Conn.Link.counts) in
     record {
       turns = λ address net. feed_turn_stops tells address c.args.lines (live_state address c.args.view.now) c.in-Some.input c.args.feed.now c.ask.new.feed net c.args.out.now c.tell-answered.new.out
-          c.args.link.now c.tell-answered.new.link c.in-Err-answered.end c.requires.few (subst IsFed c.in-Some.is c.in-Ok.ensures.told)
+          c.args.link.now c.tell-answered.new.link c.in-Err-answered.end (c.requires.wants address) c.requires.few (subst IsFed c.in-Some.is c.in-Ok.ensures.told)
           (subst (λ (t : Option LiveInput). AsksFeed feed Well (fed_of t) c.args.feed.now c.ask.new.feed) c.in-Some.is c.in-Ok.ensures.asked) (c.in-Err-answered.ensures.told address);
     }

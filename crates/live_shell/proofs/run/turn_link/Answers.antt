@@ -12,7 +12,7 @@ returns-in-Err-clause-turned g c lines many =
     let feed = feed_tells g.K.Feed.coming g.K.Feed.told g.K.Feed.faults in
     let tells = live_tells feed (output_tells g.W.Sink.written g.W.Sink.faults g.W.Sink.wants) (net_tells g.N.Net.coming g.N.Net.over g.N.Net.asked g.N.Net.faults g.N.Net.lent g.N.Net.link_counts)
     (links_tell g.N.Conn.Link.coming g.N.Conn.Link.heard g.N.Conn.Link.sent g.N.Conn.Link.counts) in
-    record { turns = λ address net. link_wants tells address lines (live_state address c.args.view.now) c.args.feed.now net c.args.out.now c.args.link.now c.hear.new.link many c.in-Err.ensures.wanted }
+    record { turns = λ address net. link_wants tells address lines (live_state address c.args.view.now) c.args.feed.now net c.args.out.now c.args.link.now c.hear.new.link (c.requires.wants address) many c.in-Err.ensures.wanted }
 
 pub returns-in-Err-answered-clause-turned : goal.returns-in-Err-answered-clause-turned
 returns-in-Err-answered-clause-turned g c lines many =
@@ -21,7 +21,7 @@ returns-in-Err-answered-clause-turned g c lines many =
     (links_tell g.N.Conn.Link.coming g.N.Conn.Link.heard g.N.Conn.Link.sent g.N.Conn.Link.counts) in
     record {
       turns = λ address net. link_turn_stops tells address lines (live_state address c.args.view.now) c.in-Ok.heard c.args.feed.now net c.args.out.now c.tell-answered.new.out
-          c.args.link.now c.hear.new.link c.tell-answered.new.link c.in-Err-answered.end many c.in-Ok.ensures.well (c.in-Err-answered.ensures.told address);
+          c.args.link.now c.hear.new.link c.tell-answered.new.link c.in-Err-answered.end (c.requires.wants address) many c.in-Ok.ensures.well (c.in-Err-answered.ensures.told address);
     }
 
 pub returns-clause-turned : goal.returns-clause-turned
@@ -35,7 +35,7 @@ returns-clause-turned g c lines many =
           let s' = live_state address c.tell-answered.new.view in
           let told = input.Says c.in-Ok.heard in
           let steps = c.in-Ok-answered.ensures.state address in
-          link_turn tells address lines 0 s s' c.in-Ok.heard c.args.feed.now c.pause_if.new.feed net c.args.out.now c.tell-answered.new.out c.args.link.now c.hear.new.link c.tell-answered.new.link many refl c.in-Ok.ensures.well
+          link_turn tells address lines 0 s s' c.in-Ok.heard c.args.feed.now c.pause_if.new.feed net c.args.out.now c.tell-answered.new.out c.args.link.now c.hear.new.link c.tell-answered.new.link (c.requires.wants address) many refl c.in-Ok.ensures.well
           (all_done tells address c.tell-answered.result c.in-Ok-answered.field-0 c.in-Ok-answered.is (live_step s told) c.args.out.now c.tell-answered.new.out c.hear.new.link c.tell-answered.new.link (c.tell-answered.ensures.told address))
           (c.pause_if.ensures (is_held s.holds s.phase told) (held_before s told c.holds-before.result (c.holds-before.ensures address)) (left_heard s s' c.in-Ok.heard c.holds-before.result c.holds.result (c.holds-before.ensures address) (c.holds.ensures address) steps))
           steps;

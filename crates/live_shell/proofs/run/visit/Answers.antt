@@ -13,7 +13,7 @@ returns-in-Err-Failed-clause-visited g c =
     record {
       turns = λ lines from back. missed tells address lines (live_state address c.args.view.now) (live_state address c.go_without.new.view) c.go_without.result from c.args.feed.now c.go_without.new.feed c.args.out.now c.args.net.now c.connect.new.net back
           (made_not tells.net tells.links address c.args.net.now c.connect.new.net c.connect.result c.connect.ensures c.in-Err-Failed.field-0 fault.Failed c.in-Err-Failed.is c.in-Err-Failed.field-0-is)
-          ((c.requires.wants address).is) (c.go_without.ensures.told address) (c.go_without.ensures.paused address) c.go_without.ensures.kept c.go_without.ensures.err;
+          (c.requires.wants address) (c.go_without.ensures.told address) (c.go_without.ensures.paused address) c.go_without.ensures.kept c.go_without.ensures.err;
     }
 
 pub returns-in-Err-WantOfMemory-clause-visited : goal.returns-in-Err-WantOfMemory-clause-visited
@@ -22,7 +22,7 @@ returns-in-Err-WantOfMemory-clause-visited g c =
     (links_tell g.N.Conn.Link.coming g.N.Conn.Link.heard g.N.Conn.Link.sent g.N.Conn.Link.counts) in
     let address = c.args.address.now in
     record {
-      turns = λ lines from back. made_wants tells address lines (live_state address c.args.view.now) (live_state address c.args.view.now) from c.args.feed.now c.args.out.now c.args.net.now c.connect.new.net back
+      turns = λ lines from back. made_wants tells address lines (live_state address c.args.view.now) (live_state address c.args.view.now) from c.args.feed.now c.args.out.now c.args.net.now c.connect.new.net (c.requires.wants address) back
           (made_not tells.net tells.links address c.args.net.now c.connect.new.net c.connect.result c.connect.ensures c.in-Err-WantOfMemory.field-0 fault.WantOfMemory c.in-Err-WantOfMemory.is c.in-Err-WantOfMemory.field-0-is);
     }
 

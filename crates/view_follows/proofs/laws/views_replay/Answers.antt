@@ -1,38 +1,14 @@
-use Rattle.std.proofs.Common.{◌≡◌, ℕ, List, [], refl, sym, ap, ◌∙◌}
-use Rattle.tea_base.specs.declared.entry.Entry.{Entry}
-use Rattle.tea_base.specs.Readings.{count_until}
-use Rattle.model_solved.specs.Founding.{Founding}
-use Rattle.world.specs.Worlds.{replay}
+use Rattle.std.proofs.Common.{[], refl, sym, ◌∙◌}
 use Rattle.replica.specs.RealWorlds.{worlds}
-use Rattle.replica_plain.specs.Worlds.{replay_world}
 use Rattle.replica_plain.specs.PlainReplica.{new_replica}
 use Rattle.replica_plain.proofs.SyncSteps.{first_world_follows}
 use Rattle.view_shell.specs.Phases.{Printing}
 use Rattle.view_shell.specs.Viewers.{first_phase}
-use Rattle.view_follows.specs.ViewsReplay.{IsReplayLine, TellsReplayOf}
+use Rattle.view_follows.proofs.Replays.{replay_line, tells_replay}
 use Rattle.view_follows.proofs.Shown.{shows_replay, walk_keeps}
-use Rattle.view_follows.proofs.Stands.{TellsReplay, line_of, rested_replays}
+use Rattle.view_follows.proofs.Stands.{rested_replays}
 use Rattle.view_follows.proofs.Walking.{walk_ends, walk_offers, walk_prints, walk_tells}
 use Rattle.view_follows.proofs.laws.views_replay.Goals as goal
-
-tells_replay : (founding : Founding) (id : List ℕ) (view : ℕ) (log : List Entry) (line : List ℕ) → ((t : ℕ) → (replay founding id log t).world ≡ replay_world (worlds founding id) log t) → TellsReplay (worlds founding id) log view line → TellsReplayOf founding id view log line
-tells_replay founding id view log line same told =
-    let r = told.replica in
-    let world = told.has.replayed ∙ sym (same r.world.time) in
-    record {
-      time = r.world.time;
-      timed = sym (ap (λ w. w.time) world);
-      told = told.told ∙ line_of (worlds founding id) r view (count_until log r.world.time) (replay founding id log r.world.time).world told.has.its told.has.follows.counted world;
-    }
-
-replay_line : (founding : Founding) (id : List ℕ) (view : ℕ) (log : List Entry) (line : List ℕ) → ((t : ℕ) → (replay founding id log t).world ≡ replay_world (worlds founding id) log t) → TellsReplay (worlds founding id) log view line → IsReplayLine founding id view log line
-replay_line founding id view log line same told = record {
-  replica = told.replica;
-  own = told.has.its;
-  follows = told.has.follows;
-  replayed = told.has.replayed ∙ sym (same told.replica.world.time);
-  told = told.told;
-}
 
 pub returns : goal.returns
 returns c = record {

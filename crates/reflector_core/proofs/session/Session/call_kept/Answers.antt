@@ -9,5 +9,5 @@ returns-clause-pace g c = elim c.match-request.branch [
   | in-Tick w ↦ rw (w.self-is, w.keeper-is) w.tick-reply.ensures.pace
   | in-Leave w ↦ rw (w.self-is, w.keeper-is) w.leave-reply.ensures.pace
   | in-Offer w ↦ rw (w.self-is, w.keeper-is) w.offer-reply.ensures.pace
-  | in-Pull w ↦ rw (w.self-is, w.keeper-is) (stays g.K.Keeper.holds g.K.Keeper.shut g.K.Keeper.faults c.args.keeper.now c.args.self.now.plain)
+  | in-Pull w ↦ rw (w.self-is, w.keeper-is) (stays g.K.Keeper.holds g.K.Keeper.writes g.K.Keeper.settled g.K.Keeper.shut g.K.Keeper.faults c.args.keeper.now c.args.self.now.plain)
 ]

@@ -8,13 +8,13 @@ use Rattle.reflector_core.specs.Keeping.{with_entry}
 use Rattle.session_keeper.proofs.KeepingLaws.{typed_what, entry_may_come, full_for_entry, full_still}
 use Rattle.session_keeper.proofs.keeper.JournalKeeperKeeper.keep_entry.Goals as goal
 
-pub returns-in-Ok-clause-kept : goal.returns-in-Ok-clause-kept
-returns-in-Ok-clause-kept g c = λ held is sound follows after.
+pub returns-in-Ok-clause-written : goal.returns-in-Ok-clause-written
+returns-in-Ok-clause-written g c = λ held is sound follows after.
     let recorded : What = lent_what c.args.what in
     let fits = typed_what held c.args.time c.args.view recorded sound follows c.requires in
     record {
       state = after_change is.state (Came c.args.time c.args.view recorded);
-      is_kept = c.in-Ok.ensures.kept c.args.self.now.id.0 is.state is.is_kept (c.ranges.time.fits, (c.ranges.view.fits, fits)) (entry_may_come is.state held c.args.time c.args.view recorded is.same follows after);
+      is_written = c.in-Ok.ensures.written c.args.self.now.id.0 is.state is.is_written (c.ranges.time.fits, (c.ranges.view.fits, fits)) (entry_may_come is.state held c.args.time c.args.view recorded is.same follows after);
       same = ap (λ (t : PlainSession). with_entry t c.args.time c.args.view recorded) is.same;
     }
 

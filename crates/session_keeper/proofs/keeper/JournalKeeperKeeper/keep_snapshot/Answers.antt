@@ -1,15 +1,11 @@
-use Rattle.std.proofs.Common.{inr, ap, arith}
-use Rattle.session_journal.specs.declared.change.Change.TheVariants.{Kept}
-use Rattle.session_journal.specs.State.{after_change}
-use Rattle.reflector_core.specs.PlainSession.{PlainSession}
-use Rattle.reflector_core.specs.Keeping.{with_snapshot}
-use Rattle.session_keeper.proofs.KeepingLaws.{snapshot_may_come}
+use Rattle.session_keeper.proofs.KeepingLaws.{cause_then, held_then, snapshot_then}
 use Rattle.session_keeper.proofs.keeper.JournalKeeperKeeper.keep_snapshot.Goals as goal
 
-pub returns-in-Ok-clause-kept : goal.returns-in-Ok-clause-kept
-returns-in-Ok-clause-kept g c = λ held is sound past.
-    inr (record {
-      state = after_change is.state (Kept c.args.time c.args.bytes.now);
-      is_kept = c.in-Ok.ensures.kept c.args.self.now.id.0 is.state is.is_kept (c.ranges.time.fits, omega (arith, c.requires)) (snapshot_may_come is.state held c.args.time c.args.bytes.now is.same sound past c.requires);
-      same = ap (λ (t : PlainSession). with_snapshot t c.args.time c.args.bytes.now) is.same;
-    })
+pub returns-in-Ok-clause-written : goal.returns-in-Ok-clause-written
+returns-in-Ok-clause-written g c = snapshot_then c.settle.result _ _ _ c.args.time c.args.bytes.now c.in-Ok.ensures.written c.settle.ensures.written
+
+pub returns-in-Ok-clause-held : goal.returns-in-Ok-clause-held
+returns-in-Ok-clause-held g c = held_then c.settle.result _ _ _ c.in-Ok.ensures.held c.settle.ensures.held
+
+pub returns-in-Ok-clause-cause : goal.returns-in-Ok-clause-cause
+returns-in-Ok-clause-cause g c = cause_then c.settle.result _ _ _ _ _ _ c.in-Ok.ensures.cause.kept c.in-Ok.ensures.cause.shuts c.settle.ensures.cause

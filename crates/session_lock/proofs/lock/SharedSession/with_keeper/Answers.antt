@@ -6,5 +6,5 @@ use Rattle.session_lock.proofs.lock.SharedSession.with_keeper.Goals as goal
 
 pub new-requires : goal.new-requires
 new-requires g c =
-    opens_kept g.K.Keeper.holds g.K.Keeper.shut g.K.Keeper.faults (IsTrusted g.T.Trust.allows c.args.trust c.args.id) c.push.new.self.items c.of-kept.result _ c.args.session.plain c.args.keeper
-    (ap (λ (m : Me _ _). m.0) c.in-Ok.ensures.4) c.of-kept.ensures.session c.of-kept.ensures.keeper (cc (c.in_default.ensures.items, c.new-slots.ensures.items)) c.requires.covered c.requires.unshut c.requires.trusted c.of-kept.ensures.sound
+    opens_kept g.K.Keeper.holds g.K.Keeper.writes g.K.Keeper.shut g.K.Keeper.faults (IsTrusted g.T.Trust.allows c.args.trust c.args.id) c.push.new.self.items c.of-kept.result _ c.args.session.plain c.args.keeper
+    (ap (λ (m : Me _ _). m.0) c.in-Ok.ensures.4) c.of-kept.ensures.first (cc (c.in_default.ensures.items, c.new-slots.ensures.items)) c.requires.covered c.requires.written c.requires.unshut c.requires.trusted c.of-kept.ensures.sound

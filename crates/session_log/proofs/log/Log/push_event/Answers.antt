@@ -1,11 +1,12 @@
-use Rattle.std.proofs.Common.{arith, ◌≡◌, ◌+◌, length}
+use Rattle.std.proofs.Common.{arith, ◌≡◌, ◌+◌, length, refl}
 use Rattle.std.proofs.lemmas.List.{length-map}
 use Rattle.tea_base.specs.declared.entry.What.TheVariants as what
 use Rattle.tea_base.specs.Legal.{MayFollow}
+use Rattle.tea_base.proofs.LogLaws.{payload_bytes-legal}
 use Rattle.session_log.specs.Heads.{entry_of}
 use Rattle.session_log.specs.Kept.{log_entries}
 use Rattle.session_log.specs.LogState.{next_entry}
-use Rattle.session_log.proofs.HeadLaws.{AreSound-push, entries-push, short-push}
+use Rattle.session_log.proofs.HeadLaws.{AreSound-push, counted-push, entries-push, short-push}
 use Rattle.session_log.proofs.log.Log.push_event.Goals as goal
 
 pub store_event-kind-requires-clause-room : goal.store_event-kind-requires-clause-room
@@ -13,6 +14,9 @@ store_event-kind-requires-clause-room c = rw (← c.self.view_is) at c.requires.
 
 pub store_event-kind-requires-clause-short : goal.store_event-kind-requires-clause-short
 store_event-kind-requires-clause-short c = c.requires.legal.allowed.2
+
+pub overflow_add-self : goal.overflow_add-self
+overflow_add-self c = omega (arith, payload_bytes-legal _ c.self.invariant.kept.legal, c.self.invariant.counted, c.requires.legal.allowed.2)
 
 pub invariant_of-self : goal.invariant_of-self
 invariant_of-self c =
@@ -22,6 +26,7 @@ invariant_of-self c =
     let may : MayFollow (log_entries fields) (next_entry (log_entries fields) c.args.time c.args.view event) = rw (← c.self.view_is) at c.requires.legal in
     record {
       kept = AreSound-push _ _ fields.heads.items _ _ event c.self.invariant.kept stored.appended c.push_head-seq.ensures.items stored.kept stored.within (omega (arith, c.push_head-seq.ensures.seq)) may;
+      counted = counted-push (log_entries fields) _ _ fields.bytes (length c.args.payload.now) (entries-push _ _ _ fields.heads.items _ _ event c.self.invariant.kept.within stored.appended c.push_head-seq.ensures.items stored.kept) c.self.invariant.counted refl;
       short = omega (arith, short-push fields.payloads.bytes fields.heads.items c.args.time c.args.view event may, c.push_head-seq.ensures.len);
       room_for_entries = omega (arith, c.push_head-seq.ensures.len, c.push_head-seq.ensures.room);
     }
