@@ -7,6 +7,7 @@ import os
 import pty
 import re
 import select
+import socket
 import subprocess
 import time
 
@@ -182,6 +183,7 @@ def guests_are_told(program):
     expect(0, session.join(7, b"quit\n").status)
     refused = session.join(8, b"quit\n", b"class Root{} ")
     expect(7, refused.status)
+    expect_that(refused.errors.startswith(b"hint: the reflector refused it, another session: "), "why it was refused", refused.errors)
     lines = session.end().errors.decode().splitlines()
     expect_that(lines[0].startswith("listening at "), "the line of who listens", lines[:1])
     wanted = ["link 0: view 7 joined", "link 0: view 7 left", "link 1: view 8 refused 12: another session"]
@@ -199,6 +201,31 @@ def faults_are_told(program):
               r'fault zero-divisor at \d+ in a handler of "door" "bell": ']
     matched = sorted(first for first in wanted for line in lines if re.match(first, line))
     expect((sorted(wanted), len(wanted)), (matched, len(lines)))
+
+
+def twenty_faults_are_told(program):
+    """Of faults in 22 places the first twenty are told, and that there are further ones."""
+    places = range(22)
+    heard = "".join(f'    subscribe("door", "bell {place}", "ring{place}");\n' for place in places)
+    handlers = "".join(f"  ring{place}(count) {{\n    return 1 / count;\n  }}\n" for place in places)
+    session = Session(program, 1, f"class Root {{\n  init(o) {{\n{heard}  }}\n{handlers}}}\n".encode(), False)
+    run = session.join(7, "".join(f'publish "door" "bell {place}" 0\n' for place in places).encode() + b"settle\nwait +400000\n")
+    session.end()
+    expect(0, run.status)
+    lines = run.errors.decode().splitlines()
+    wanted = [rf'fault zero-divisor at \d+ in a handler of "door" "bell {place}": ' for place in places[:20]] + ["further faults and events are not told$"]
+    expect(len(wanted), len(lines))
+    expect_that(all(re.match(*pair) for pair in zip(wanted, lines)), wanted, lines)
+
+
+def taken_port_is_told(program):
+    """A reflector at a port that another one has says so."""
+    with socket.create_server(("127.0.0.1", 0)) as other:
+        address = f"127.0.0.1:{other.getsockname()[1]}"
+        run = program.run(["reflect", "p", "a", address, "--connections", "1", "--log", "f"], {"p": b"class Root{}"}, None, is_quiet=False)
+    expect("net-fault [6]", run.told())
+    lines = run.errors.decode().splitlines()
+    expect([f"cannot listen at {address}: the port is in use", f"hint: at {address}: the port is taken"], [lines[0], lines[1].rsplit(":", 1)[0]])
 
 
 def lines_are_told(program):
@@ -285,7 +312,7 @@ def long_work_is_shown(program):
 
 
 def note_cases():
-    checks = [guests_are_told, faults_are_told, lines_are_told, all_is_quiet, long_work_is_shown]
+    checks = [guests_are_told, faults_are_told, twenty_faults_are_told, taken_port_is_told, lines_are_told, all_is_quiet, long_work_is_shown]
     return [Case(f"notes: {check.__name__.replace('_', ' ')}", check) for check in checks]
 
 

@@ -11,12 +11,12 @@ from reflector import EMPTY
 from websocket import BINARY, CLOSE, CLOSE_NORMAL, PING, PONG, TEXT, Wire, frame
 
 IDENT = croquet.session_id(b"a", EMPTY)
-SYNC = croquet.framed(65, croquet.number(1, 4), bytes(9))
-JOIN = croquet.framed(66, croquet.number(1, 4), croquet.number(1, 8), croquet.number(7, 4), b"\1")
-TICK = croquet.framed(67, croquet.number(2, 8))
+SYNC = croquet.framed(croquet.SYNC_TAG, croquet.number(1, 4), bytes(9))
+JOIN = croquet.framed(croquet.RECV_TAG, croquet.number(1, 4), croquet.number(1, 8), croquet.number(7, 4), b"\1")
+TICK = croquet.framed(croquet.TICK_TAG, croquet.number(2, 8))
 LONGEST = 8_388_608
-JOIN_WHOLE = croquet.framed(1, IDENT, croquet.number(7, 4), b"\1")
-JOIN_FRESH = croquet.framed(1, IDENT, croquet.number(7, 4), b"\0")
+JOIN_WHOLE = croquet.framed(croquet.JOIN_TAG, IDENT, croquet.number(7, 4), b"\1")
+JOIN_FRESH = croquet.framed(croquet.JOIN_TAG, IDENT, croquet.number(7, 4), b"\0")
 
 
 class Host:
@@ -178,7 +178,7 @@ def number_of_send(content):
 
 
 def done_frame(number):
-    return croquet.framed(68, croquet.number(number, 4), croquet.number(number + 1, 4),
+    return croquet.framed(croquet.DONE_TAG, croquet.number(number, 4), croquet.number(number + 1, 4),
                           croquet.number(number + 1, 8))
 
 

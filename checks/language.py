@@ -86,10 +86,10 @@ SCRIPT = b'watch "m" "heard" queued\npublish "v" "say" %s\nwait 2\n'
 
 def check_text(program, case, wanted):
     """A view publishes the value of this text and shows it, or its script is refused."""
-    frames = [croquet.framed(65, croquet.number(1, 4), bytes(9))]
+    frames = [croquet.framed(croquet.SYNC_TAG, croquet.number(1, 4), bytes(9))]
     if wanted != "bad":
         content = croquet.text_field("v") + croquet.text_field("say") + spelling_of(wanted)
-        frames.append(croquet.framed(66, croquet.number(1, 4), croquet.number(2, 8),
+        frames.append(croquet.framed(croquet.RECV_TAG, croquet.number(1, 4), croquet.number(2, 8),
                                      croquet.number(7, 4), b"\3", croquet.number(1, 4),
                                      croquet.bytes_field(content)))
     peer = Peer([frames])
@@ -101,7 +101,7 @@ def check_text(program, case, wanted):
     if wanted == "bad":
         return expect("input script [3]", run.told())
     expect(f'event 2 "m" "heard" {text_behind(wanted)}', run.text.decode().split("\n")[0])
-    return expect(croquet.framed(2, croquet.number(1, 4), croquet.bytes_field(content)).hex(),
+    return expect(croquet.framed(croquet.SEND_TAG, croquet.number(1, 4), croquet.bytes_field(content)).hex(),
                   peer.sent[0][1].hex())
 
 

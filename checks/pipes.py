@@ -204,7 +204,7 @@ def a_link_that_is_gone_is_made_again(program):
         expect_that(0.9 < took < 5, "a second", f"{took} seconds")
         resumed = JOIN_FRESH[:-1] + b"\2" + croquet.number(1, 8)
         expect(resumed, heard(wire))
-        wire.say(binary(croquet.framed(65, croquet.number(2, 4), croquet.number(0, 4), croquet.number(1, 4), b"\0")))
+        wire.say(binary(croquet.framed(croquet.SYNC_TAG, croquet.number(2, 4), croquet.number(0, 4), croquet.number(1, 4), b"\0")))
         expect("rejoined 2 1", host.lines.line())
         wire.stop_sending()
         expect("ended", host.lines.line())

@@ -27,15 +27,15 @@ def hold_port():
 
 def join_frame(ident, view, want="whole", after=0):
     wants = {"fresh": b"\0", "whole": b"\1", "after": b"\2" + croquet.number(after, 8)}
-    return croquet.framed(1, ident, croquet.number(view, 4), wants[want])
+    return croquet.framed(croquet.JOIN_TAG, ident, croquet.number(view, 4), wants[want])
 
 
 def send_frame(number, payload):
-    return croquet.framed(2, croquet.number(number, 4), croquet.bytes_field(payload))
+    return croquet.framed(croquet.SEND_TAG, croquet.number(number, 4), croquet.bytes_field(payload))
 
 
 def snap_frame(time_, snapshot):
-    return croquet.framed(3, croquet.number(time_, 8), croquet.bytes_field(snapshot))
+    return croquet.framed(croquet.SNAP_TAG, croquet.number(time_, 8), croquet.bytes_field(snapshot))
 
 
 class Reflector:
@@ -198,7 +198,7 @@ class View:
 
 
 def leave_all(*views):
-    """All leave, and hear on to the end: a reflector closes its links once all have ended."""
+    """All leave, and hear on to the end."""
     for view in views:
         view.say(LEAVE)
     for view in views:

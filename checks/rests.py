@@ -45,12 +45,12 @@ def entry_bytes(entry):
               croquet.number(entry.view, 4), croquet.number(kinds[entry.kind], 1)]
     if entry.kind == "event":
         fields += [croquet.number(entry.number, 4), croquet.bytes_field(entry.payload)]
-    return croquet.framed(66, *fields)
+    return croquet.framed(croquet.RECV_TAG, *fields)
 
 
 def sync_bytes(joined, from_, base):
     told = b"\0" if base is None else b"\1" + croquet.number(base[0], 8) + croquet.bytes_field(base[1])
-    return croquet.framed(65, croquet.number(joined, 4), croquet.number(0, 4), croquet.number(from_, 4), told)
+    return croquet.framed(croquet.SYNC_TAG, croquet.number(joined, 4), croquet.number(0, 4), croquet.number(from_, 4), told)
 
 
 def served_frames(source, entries, joined, from_, base=None):
@@ -63,7 +63,7 @@ def served_frames(source, entries, joined, from_, base=None):
         after = entries[place + 1].time if place + 1 < len(entries) else entry.time + 5
         if place + 1 >= joined and source.random() < 0.4 and entry.time + 1 < after:
             time = source.randrange(entry.time + 1, after)
-            frames.append((time, croquet.framed(67, croquet.number(time, 8))))
+            frames.append((time, croquet.framed(croquet.TICK_TAG, croquet.number(time, 8))))
     return frames
 
 

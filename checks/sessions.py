@@ -154,12 +154,12 @@ def joins_are_refused(program):
     """The first frame has to be a JOIN of this session, of a view, and of a time that came."""
     ident = croquet.session_id(b"a", EMPTY)
     other = croquet.session_id(b"b", EMPTY)
-    firsts = [(croquet.framed(1, ident, bytes(4), b"\1"), (1, 8, 0, 0)),
-              (croquet.framed(1, other, bytes([0, 0, 0, 7]), b"\1"), (1, 12, 0, 0)),
+    firsts = [(croquet.framed(croquet.JOIN_TAG, ident, bytes(4), b"\1"), (1, 8, 0, 0)),
+              (croquet.framed(croquet.JOIN_TAG, other, bytes([0, 0, 0, 7]), b"\1"), (1, 12, 0, 0)),
               (LEAVE, (4, 14, 0, 0)), (ALIVE, (5, 14, 0, 0)), (send_frame(1, b"hi"), (2, 14, 0, 0)),
               (snap_frame(0, b""), (3, 14, 0, 0)), (b"", (0, 13, 0, 0)), (b"\xff", (0, 13, 0, 0)),
               (LEAVE + b"\0", (0, 13, 0, 0)),
-              (croquet.framed(1, ident, bytes([0, 0, 0, 7]), b"\3"), (0, 13, 0, 0))]
+              (croquet.framed(croquet.JOIN_TAG, ident, bytes([0, 0, 0, 7]), b"\3"), (0, 13, 0, 0))]
     with reflecting(program, len(firsts)) as reflector:
         for first, refusal in firsts:
             wire = reflector.connect()
@@ -192,7 +192,7 @@ def other_frames_are_answered(program):
         view.joined()
         view.say(ALIVE)
         view.until("alive")
-        view.say(croquet.framed(1, reflector.ident, bytes([0, 0, 0, 7]), b"\1"))
+        view.say(croquet.framed(croquet.JOIN_TAG, reflector.ident, bytes([0, 0, 0, 7]), b"\1"))
         expect((1, 15, 0, 0), view.refused())
         for content in (b"", b"\xff", b"\x41", ALIVE + b"\0"):
             view.say(content)

@@ -422,7 +422,7 @@ def reflect(plain, options):
     while len(accepted) < count and not is_shut(shared):
         link = links.accept_soon(listener)
         if link is not None:
-            serve = lambda place, link: words.update({place: talk(shared, OneLink(link)).run()})
+            serve = lambda place, link: words.update({place: serve_link(link, talk(shared, OneLink(link)))})
             threads.append(threading.Thread(target=serve, args=(len(accepted), link)))
             accepted.append(link)
             threads[-1].start()
@@ -436,6 +436,13 @@ def reflect(plain, options):
     say(f"entries {len(shared.session.log)} time {shared.session.horizon}")
     if is_shut(shared):
         raise croquet.Ended("write-fault", 5)
+
+
+def serve_link(link, talk):
+    """How the talk on a link ends. The link is closed then."""
+    word = talk.run()
+    links.close(link)
+    return word
 
 
 def is_shut(shared):

@@ -271,8 +271,8 @@ class Link:
 
 
 def close_all(links):
-    """Closes in good manners: says Close, stops sending, and reads on for a second at the most."""
-    since = time.monotonic()
+    """Closes those that are open in good manners: says Close, stops sending, and reads on for a second at the most."""
+    since, links = time.monotonic(), [link for link in links if link.socket.fileno() >= 0]
     for link in links:
         if link.last is None:
             link.say_close(1000)
@@ -284,3 +284,8 @@ def close_all(links):
         except (Failed, LinkEnd):
             pass
         link.socket.close()
+
+
+def close(link):
+    """Closes a link whose talk is over, while others go on."""
+    close_all([link])

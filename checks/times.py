@@ -296,7 +296,7 @@ def flood(wire, until):
         wire.say(b"".join(frame(BINARY, send_frame(sent + place, b"flood"), NO_MASK)
                           for place in range(1, 257)))
         sent += 256
-        done = croquet.framed(68, croquet.number(sent, 4))
+        done = croquet.framed(croquet.DONE_TAG, croquet.number(sent, 4))
         while not wire.read_frame()[3].startswith(done):
             pass
     return sent

@@ -2413,6 +2413,11 @@ def voted(entries):
 
 # ---------------------------------------------------------------- frames
 
+NO_TAG = 0
+JOIN_TAG, SEND_TAG, SNAP_TAG, LEAVE_TAG, ALIVE_TAG = range(1, 6)
+SYNC_TAG, RECV_TAG, TICK_TAG, DONE_TAG, SNAPPED_TAG, REFUSED_TAG, SERVER_ALIVE_TAG = range(65, 72)
+
+
 def framed(tag, *fields):
     return number(tag, 1) + b"".join(fields)
 
@@ -2421,7 +2426,7 @@ def bytes_field(source):
     return number(len(source), 4) + source
 
 
-LEAVE, ALIVE = framed(4), framed(5)
+LEAVE, ALIVE = framed(LEAVE_TAG), framed(ALIVE_TAG)
 
 
 def frame_time(reader):
@@ -2449,13 +2454,13 @@ def numbers_of(*sizes):
 
 
 SERVER_FRAMES = {
-    65: ("sync", lambda reader: (*numbers_of(4, 4, 4)(reader), read_base(reader))),
-    66: ("recv", lambda reader: (read_entry(reader),)),
-    67: ("tick", lambda reader: (frame_time(reader),)),
-    68: ("done", lambda reader: (*numbers_of(4, 4)(reader), frame_time(reader))),
-    69: ("snapped", lambda reader: (frame_time(reader),)),
-    70: ("refused", numbers_of(1, 1, 8, 8)),
-    71: ("alive", numbers_of())}
+    SYNC_TAG: ("sync", lambda reader: (*numbers_of(4, 4, 4)(reader), read_base(reader))),
+    RECV_TAG: ("recv", lambda reader: (read_entry(reader),)),
+    TICK_TAG: ("tick", lambda reader: (frame_time(reader),)),
+    DONE_TAG: ("done", lambda reader: (*numbers_of(4, 4)(reader), frame_time(reader))),
+    SNAPPED_TAG: ("snapped", lambda reader: (frame_time(reader),)),
+    REFUSED_TAG: ("refused", numbers_of(1, 1, 8, 8)),
+    SERVER_ALIVE_TAG: ("alive", numbers_of())}
 
 
 def read_server(source):
@@ -2497,7 +2502,7 @@ class Replica:
         self.wanted, self.synced = wanted, False
         self.given = self.acknowledged
         want = {"fresh": b"\0", "whole": b"\1", "resume": b"\2" + number(self.world.time, 8)}
-        return framed(1, self.id, number(self.view, 4), want[wanted])
+        return framed(JOIN_TAG, self.id, number(self.view, 4), want[wanted])
 
     def publish(self, scope, event, value):
         self.payloads.append(payload(scope, event, value))
@@ -2508,7 +2513,7 @@ class Replica:
         if not self.synced:
             return []
         first, self.given = self.given, len(self.payloads)
-        return [framed(2, number(k + 1, 4), bytes_field(self.payloads[k]))
+        return [framed(SEND_TAG, number(k + 1, 4), bytes_field(self.payloads[k]))
                 for k in range(first, self.given)]
 
     def settled(self):
@@ -2801,15 +2806,19 @@ class Reflecting:
             return self.session.kept
 
 
+def code_of(word):
+    return CODES.index(word) + 1
+
+
 def refused_frame(about, code, kept=0, more=0):
     sizes = [(about, 1), (code, 1), (kept, 8), (more, 8)]
-    return framed(70, *(number(value, size) for value, size in sizes))
+    return framed(REFUSED_TAG, *(number(value, size) for value, size in sizes))
 
 
 def refusal_of(about, reply):
     """The frame of a reply that refuses."""
     word, *numbers = reply.split(" ")[1:]
-    return refused_frame(about, CODES.index(word) + 1, *map(int, numbers))
+    return refused_frame(about, code_of(word), *map(int, numbers))
 
 
 def entry_frame(entry):
@@ -2817,23 +2826,23 @@ def entry_frame(entry):
     fields = [number(entry.seq, 4), number(entry.time, 8), number(entry.view, 4), number(kinds[entry.kind], 1)]
     if entry.kind == "event":
         fields += [number(entry.number, 4), bytes_field(entry.payload)]
-    return framed(66, *fields)
+    return framed(RECV_TAG, *fields)
 
 
 def read_client(content):
     """The tag of a view's frame, and its fields."""
     reader = Reader(content)
     tag = reader.number(1)
-    if tag == 1:
+    if tag == JOIN_TAG:
         fields = [reader.bytes(32), reader.number(4), reader.number(1)]
         need(fields[2] <= 2)
         fields.append(frame_time(reader) if fields[2] == 2 else 0)
-    elif tag == 2:
+    elif tag == SEND_TAG:
         fields = [reader.number(4), reader.bytes(reader.number(4))]
-    elif tag == 3:
+    elif tag == SNAP_TAG:
         fields = [frame_time(reader), reader.bytes(reader.number(4))]
     else:
-        need(tag in (4, 5))
+        need(tag in (LEAVE_TAG, ALIVE_TAG))
         fields = []
     reader.end()
     return tag, fields
@@ -2882,23 +2891,23 @@ class Talk:
         try:
             tag, fields = read_client(content)
         except Bad:
-            return self.refuse(0, NO_FRAME)
-        if tag != 1:
+            return self.refuse(NO_TAG, NO_FRAME)
+        if tag != JOIN_TAG:
             return self.refuse(tag, NOT_JOINED)
         ident, self.view, want, time = fields
         if ident != self.shared.ident:
-            return self.refuse(1, OTHER_SESSION)
+            return self.refuse(JOIN_TAG, OTHER_SESSION)
         with self.shared.lock:
             base = self.shared.base()
             reply = self.shared.ask("join", self.view, self.shared.now(), ["fresh", "whole", "after"][want], time)
         if reply.startswith("refused"):
-            frame = refusal_of(1, reply)
+            frame = refusal_of(JOIN_TAG, reply)
             self.send_last(frame)
             return f"refused {frame[2]}"
         words = reply.split(" ")
         self.joined, last, self.after = int(words[1]), int(words[3]), int(words[4])
         tail = [b"\0"] if "base" not in words else [b"\1", number(base[0], 8), bytes_field(base[1])]
-        self.link.send(framed(65, *(number(value, 4) for value in (self.joined, last, self.after)), *tail))
+        self.link.send(framed(SYNC_TAG, *(number(value, 4) for value in (self.joined, last, self.after)), *tail))
         return None
 
     def refuse(self, about, code):
@@ -2919,7 +2928,7 @@ class Talk:
             self.link.send(entry_frame(entry))
             self.after = entry.seq
         if tick is not None and tick > self.last_tick:
-            self.link.send(framed(67, number(tick, 8)))
+            self.link.send(framed(TICK_TAG, number(tick, 8)))
             self.last_tick = tick
 
     def take(self, content):
@@ -2929,18 +2938,18 @@ class Talk:
         try:
             tag, fields = read_client(content)
         except Bad:
-            return self.link.send(refused_frame(0, NO_FRAME))
-        if tag == 1:
-            return self.link.send(refused_frame(1, JOINED_ALREADY))
-        if tag == 5:
-            return self.link.send(framed(71))
+            return self.link.send(refused_frame(NO_TAG, NO_FRAME))
+        if tag == JOIN_TAG:
+            return self.link.send(refused_frame(JOIN_TAG, JOINED_ALREADY))
+        if tag == ALIVE_TAG:
+            return self.link.send(framed(SERVER_ALIVE_TAG))
         return self.asked(tag, fields)
 
     def asked(self, tag, fields):
         """Makes the request of a SEND, a SNAP or a LEAVE, and answers by its reply."""
-        words = {2: lambda: ["send", self.view, self.joined, fields[0], self.shared.now(), fields[1]],
-                 3: lambda: ["offer", self.view, self.joined, *fields],
-                 4: lambda: ["leave", self.view, self.joined, self.shared.now()]}[tag]()
+        words = {SEND_TAG: lambda: ["send", self.view, self.joined, fields[0], self.shared.now(), fields[1]],
+                 SNAP_TAG: lambda: ["offer", self.view, self.joined, *fields],
+                 LEAVE_TAG: lambda: ["leave", self.view, self.joined, self.shared.now()]}[tag]()
         reply = self.shared.ask(*words)
         word, *numbers = reply.split(" ")
         if word == "left":
@@ -2951,8 +2960,8 @@ class Talk:
         if word == "refused":
             return self.link.send(refusal_of(tag, reply))
         if word == "kept":
-            return self.link.send(framed(69, number(fields[0], 8)))
-        return self.link.send(framed(68, number(fields[0], 4), number(int(numbers[0]), 4), number(int(numbers[1]), 8)))
+            return self.link.send(framed(SNAPPED_TAG, number(fields[0], 8)))
+        return self.link.send(framed(DONE_TAG, number(fields[0], 4), number(int(numbers[0]), 4), number(int(numbers[1]), 8)))
 
 
 # ---------------------------------------------------------------- the run of a view
@@ -3101,7 +3110,7 @@ class ViewRun:
 
     def do_snap(self):
         world = self.replica.world
-        self.send(framed(3, number(world.time, 8), bytes_field(world.snapshot())))
+        self.send(framed(SNAP_TAG, number(world.time, 8), bytes_field(world.snapshot())))
         name, fields = self.receive_until(
             lambda name, fields: name == "snapped" or name == "refused" and fields[0] == 3)
         if name == "snapped":
@@ -3696,11 +3705,11 @@ def reflectors_case(case):
 def client_case(case):
     """The frame of a view that the bytes spell, in words."""
     tag, fields = read_client(hex_case(case))
-    if tag == 1:
+    if tag == JOIN_TAG:
         ident, view, want, time = fields
         return f"join {ident.hex()} view {view} " + ["fresh", "whole", f"after {time}"][want]
-    words = {2: lambda: f"send {fields[0]} {fields[1].hex()}", 3: lambda: f"snap {fields[0]} {fields[1].hex()}",
-             4: lambda: "leave", 5: lambda: "alive"}
+    words = {SEND_TAG: lambda: f"send {fields[0]} {fields[1].hex()}", SNAP_TAG: lambda: f"snap {fields[0]} {fields[1].hex()}",
+             LEAVE_TAG: lambda: "leave", ALIVE_TAG: lambda: "alive"}
     return words[tag]()
 
 

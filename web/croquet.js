@@ -75,11 +75,12 @@ function readList(text, from) {
   return [items, at + 1];
 }
 
+const WORD_ENDS = " ,]\n";
+
 function readWord(text, from) {
-  const pattern = /[^\s,\]]*/y;
-  pattern.lastIndex = from;
-  const word = pattern.exec(text)[0];
-  return [word, from + word.length];
+  let at = from;
+  while (at < text.length && !WORD_ENDS.includes(text[at])) at++;
+  return [text.slice(from, at), at];
 }
 
 function valueOfWord(word) {
@@ -112,15 +113,44 @@ function readObject(line) {
   return object;
 }
 
-/** The objects of a world, by their numbers, from its text. */
-export function objectsOf(text) {
-  const objects = new Map();
-  for (const line of text.split("\n")) {
-    if (!line.startsWith("object ")) continue;
-    const object = readObject(line);
-    objects.set(object.ref, object);
+function frozen(value) {
+  if (value === null || typeof value !== "object") return value;
+  if (Array.isArray(value)) value.forEach(item => frozen(item));
+  else for (const name in value) frozen(value[name]);
+  return Object.freeze(value);
+}
+
+/** What was read of a world, so that the next look reads only what has changed. */
+export class Reading {
+  constructor() {
+    this.lines = [];
+    this.objects = [];
   }
-  return objects;
+
+  // The place of a line among those that were read, at the place where it is looked for or after one object that is gone.
+  placeOf(line, place) {
+    if (this.lines[place] === line) return place;
+    return this.lines[place + 1] === line ? place + 1 : -1;
+  }
+
+  /** The objects of a world from its text, in its order. What they have is frozen, and one whose line is the same is not read again. */
+  next(text) {
+    const lines = text.split("\n").filter(line => line.startsWith("object "));
+    let place = 0;
+    const objects = lines.map(line => {
+      const found = this.placeOf(line, place);
+      place = (found < 0 ? place : found) + 1;
+      return found < 0 ? frozen(readObject(line)) : this.objects[found];
+    });
+    this.lines = lines;
+    this.objects = objects;
+    return objects;
+  }
+}
+
+/** The objects of a world, by their numbers, from its text. */
+export function objectsOf(text, reading = new Reading()) {
+  return new Map(reading.next(text).map(object => [object.ref, object]));
 }
 
 /** The digest of a world, from its text. */
@@ -145,7 +175,9 @@ async function compile(bytes) {
     return await WebAssembly.compile(await fetched("croquet.wasm"));
   } catch (fault) {
     if (!(fault instanceof WebAssembly.CompileError)) throw fault;
-    return WebAssembly.compile(await fetched("croquet-lowered.wasm"));
+    return WebAssembly.compile(await fetched("croquet-lowered.wasm").catch(({ message }) => {
+      throw new Error(`this engine has no memories of 64 bits, and there is no module for it: ${message}`);
+    }));
   }
 }
 
@@ -274,7 +306,7 @@ const HOLDS = 4294967295;
 const MOST_LINE = 65536;
 const QUIET_EVERY = 10;
 const MOST_QUIETS = 6000;
-const ENDS = { 6: "the net failed", 8: "memory", 9: "the reflector ended the link", 10: "the reflector broke the rules" };
+const ENDS = { 6: "the net failed", 8: "memory", 9: "the reflector ended the link", 10: "the reflector broke the rules, or this view's number was used before" };
 const EVENTS = ["lost", "rejoined", "refused", "ended", "moved"];
 const OPEN = 1;
 
@@ -341,6 +373,8 @@ export class Session {
     this.waiting = { settled: [], snapped: [], left: [] };
     this.told = { time: 0, seen: 0, unacknowledged: 0, want: WANTS_LINK };
     this.lines = [];
+    this.reading = new Reading();
+    this.written = null;
     this.isTelling = false;
     this.isLost = false;
     this.isOver = false;
@@ -413,6 +447,7 @@ export class Session {
 
   take(told) {
     this.told = told;
+    this.written = null;
     for (const frame of told.frames) if (this.link?.readyState === OPEN) this.link.send(frame);
     this.lines.push(...told.text.split("\n").filter(line => line));
     this.last ??= lastLine(told.text);
@@ -568,9 +603,14 @@ export class Session {
   get time() { return this.told.time; }
   get seen() { return this.told.seen; }
 
-  /** The world in full, as text. */
+  /** The world in full, as text. It is written once after each thing that the page was told. */
   text() {
     if (this.isOver) throw new Error("the session has ended");
+    this.written ??= this.writtenWorld();
+    return this.written;
+  }
+
+  writtenWorld() {
     const told = this.page.world();
     if (told.status) {
       this.take(told);
@@ -579,8 +619,8 @@ export class Session {
     return told.text;
   }
 
-  /** The objects of the world by their numbers, each with its number, its class and its fields. */
-  world() { return objectsOf(this.text()); }
+  /** The objects of the world by their numbers, each with its number, its class and its fields. One that has not changed is the one of the last look. */
+  world() { return objectsOf(this.text(), this.reading); }
 
   /** The fingerprint of the world. */
   digest() { return digestOf(this.text()); }

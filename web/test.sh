@@ -30,6 +30,13 @@ if [ ! -f "$module" ]; then
     exit $status
 fi
 try "the cases of views, in node" node "${flags[@]}" web/test/cases.mjs "$module"
+if has wasm-opt; then
+    lowered=$(mktemp -d)/croquet-lowered.wasm
+    web/lower.sh "$module" "$lowered"
+    try "the cases of views, by the module for engines without 64-bit memories" node web/test/cases.mjs "$lowered"
+else
+    skip "the module for engines without 64-bit memories: wasm-opt of binaryen is not installed"
+fi
 try "figures" node "${flags[@]}" web/test/figures.mjs "$module" examples/whiteboard.program
 if has chromium; then
     try "pages in chromium" node web/test/browser.mjs "$croquet" "$(mktemp -d)"

@@ -1,15 +1,15 @@
 // The cases of views that this repository has, through the steps of a page: node cases.mjs MODULE.wasm
 //
-// What a page sends and prints is compared, byte for byte, with what the cases say of the native programs. Cases in which a call of the outside
-// fails are left out, since a page has none, and so are those of persisted values, and of words, scripts and addresses that the native program
-// refuses before it begins. A program that is refused has to be refused in the same words.
+// What a page sends and prints is compared, byte for byte, with what the cases say of the native programs. A link that is not made is told to a page
+// too. Cases in which another call of the outside fails are left out, since a page has none, and so are those of persisted values, and of words,
+// scripts and addresses that the native program refuses before it begins. A program that is refused has to be refused in the same words.
 import { readFileSync } from "node:fs";
 import { Page, engine, CLOSED, END, FRAME, IS_OVER, LINE, LINKED, LINK_FAILED, QUIET, WANTS_INPUT } from "../croquet.js";
 
 const MOST_LINES = 64;
 const MOST_LINE = 65536;
 const ENDS = { 0: "", 6: "net-fault", 8: "memory", 9: "ended", 10: "peer" };
-const OUTSIDE = /^(fail|want|address|persisted) /;
+const OUTSIDE = /^(fail(?! net )|want|address|persisted) /;
 const TOP = new URL("../../", import.meta.url);
 const bytes = text => Buffer.from(text, "latin1");
 
@@ -41,8 +41,11 @@ function readCase(line) {
   const [head, program, ...parts] = expanded(line).split(" | ");
   const [, name, view, lines] = /^(\S+) (\d+) (.*)$/s.exec(head);
   const idle = new Set();
+  const unmade = new Set();
   for (const part of parts.filter(part => part.startsWith("idle "))) addNumbers(idle, part.slice(5));
-  return { name, view: Number(view), lines: lines === "-" ? [] : lines.split(" / "), program, idle, links: parts.filter(part => !part.startsWith("idle ")).map(readLink) };
+  for (const part of parts.filter(part => part.startsWith("fail net "))) addNumbers(unmade, part.slice(9));
+  const links = parts.filter(part => !/^(idle|fail net) /.test(part)).map(readLink);
+  return { name, view: Number(view), lines: lines === "-" ? [] : lines.split(" / "), program, idle, unmade, links };
 }
 
 // A live line is at most so long, and a script's comment is not.
@@ -52,7 +55,7 @@ function longestLine(line) {
 
 function isOfPage(line, outcome) {
   const parts = line.split(" | ").slice(2);
-  return !parts.some(part => OUTSIDE.test(part) || / fail /.test(` ${part}`)) && !/^(input|usage)\b/.test(outcome);
+  return !parts.some(part => OUTSIDE.test(part) || / fail /.test(part)) && !/^(input|usage)\b/.test(outcome);
 }
 
 // ---- a run
@@ -73,6 +76,7 @@ class Run {
   constructor(calls, what, feed) {
     this.page = new Page(calls, bytes(what.program), bytes(what.name).toString(), what.view);
     this.feed = feed;
+    this.what = what;
     this.links = [...what.links];
     this.given = [];
     this.asked = 0;
@@ -121,7 +125,7 @@ class Run {
 
   visit() {
     this.asked++;
-    this.link = this.links.shift();
+    this.link = this.what.unmade.has(this.asked) ? null : this.links.shift();
     if (!this.link) { this.tell(LINK_FAILED); return; }
     this.tell(LINKED);
     this.attend();

@@ -1,4 +1,5 @@
-// The same steps natively: native PROGRAM FRAMES, where FRAMES is a file of `node frames.mjs`. It prints how long they take, and the world's line.
+// The same steps natively: native PROGRAM FRAMES, where FRAMES is a file of `node frames.mjs`. It prints how much of the processor's time they take, and
+// the world's line.
 //
 //   cc -O2 -o native web/test/native.c WORK/libcroquet_page.a KIT/c/liblibc_c.a
 #include <stdint.h>
@@ -24,7 +25,7 @@ enum { LINKED, LINK_FAILED, FRAME };
 
 static double now(void) {
   struct timespec t;
-  clock_gettime(CLOCK_MONOTONIC, &t);
+  clock_gettime(CLOCK_PROCESS_CPUTIME_ID, &t);
   return t.tv_sec * 1e6 + t.tv_nsec / 1e3;
 }
 

@@ -1,6 +1,6 @@
 // What pages meet: a file server, the native program as reflector, view and replay, and a proxy that cuts links.
 import { execFileSync, spawn } from "node:child_process";
-import { writeFileSync } from "node:fs";
+import { readFileSync } from "node:fs";
 import { readFile } from "node:fs/promises";
 import { createServer } from "node:http";
 import { connect, createServer as createProxy } from "node:net";
@@ -66,17 +66,17 @@ export class Native {
     this.port = port;
   }
 
-  /** What a view of a script prints. */
-  join(view, script) {
-    const file = join(this.folder, `${view}.view`);
-    writeFileSync(file, script);
-    const words = ["join", this.program, "board", `127.0.0.1:${this.port}`, String(view), file];
-    return new Promise((done, failed) => {
-      const child = spawn(this.croquet, words, { stdio: ["ignore", "pipe", "inherit"] });
-      let text = "";
-      child.stdout.on("data", data => { text += data; });
-      child.on("exit", status => status ? failed(new Error(`view ${view} ended with ${status}: ${text}`)) : done(text));
+  /** A view that takes lines: `say` tells it some, and `leave` gives what it has printed once it has left. */
+  view(number) {
+    const words = ["join", this.program, "board", `127.0.0.1:${this.port}`, String(number), "-"];
+    const child = spawn(this.croquet, words, { stdio: ["pipe", "pipe", "inherit"] });
+    let text = "";
+    child.stdout.on("data", data => { text += data; });
+    const ended = new Promise((done, failed) => {
+      child.on("close", status => status ? failed(new Error(`view ${number} ended with ${status}: ${text}`)) : done(text));
     });
+    ended.catch(() => {});
+    return { say: lines => child.stdin.write(lines), leave: () => { child.stdin.end(); return ended; } };
   }
 
   // The reflector ends once all its links have ended: those that are left come and go.
@@ -97,6 +97,11 @@ export class Native {
   replayed(time) {
     const text = execFileSync(this.croquet, ["replay", this.program, "board", this.log, String(time)], { encoding: "utf8" });
     return /digest (\w+)/.exec(text)[1];
+  }
+
+  /** The digest of the one vote that is in the log. */
+  voted() {
+    return /#vote.*?digest.*?([0-9a-f]{64})/s.exec(readFileSync(this.log, "latin1"))?.[1];
   }
 
   close() { this.reflector?.kill(); }

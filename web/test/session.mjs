@@ -1,6 +1,6 @@
 // What croquet.js does with the answers of a page, with a module and sockets made for the test: node session.mjs
 import assert from "node:assert";
-import { Page, Session, digestOf, objectsOf, readValue, valueText, END, FRAME, LINE, LINKED, LINK_FAILED } from "../croquet.js";
+import { Page, Reading, Session, digestOf, objectsOf, readValue, valueText, END, FRAME, LINE, LINKED, LINK_FAILED } from "../croquet.js";
 import { StandIn, StandInSocket } from "./stand_in.mjs";
 
 async function until(holds) {
@@ -43,6 +43,33 @@ const tests = {
   "the objects of a world": () => {
     assert.equal(digestOf(REST), "0a".repeat(32));
     assert.deepEqual([...objectsOf(REST).values()], [{ ref: 1, class: "Root", fields: { strokes: [{ ref: 2 }] } }, { ref: 2, class: "Stroke", fields: { view: 7, name: "a b", points: [1, 2] } }]);
+  },
+  "an object that has not changed is not read again": () => {
+    const world = numbers => `time 5\nobject 1 Root list [${numbers.map(number => "#" + number)}]\n` + numbers.map(number => `object ${number} Stroke points [${number},[]]\n`).join("");
+    const reading = new Reading();
+    let before = new Map();
+    for (const [numbers, same] of [[[2, 3, 4], 0], [[2, 3, 4], 4], [[2, 3, 4, 5], 3], [[2, 4, 5], 3], [[5, 6], 0], [[], 0], [[7], 0]]) {
+      const objects = objectsOf(world(numbers), reading);
+      assert.deepEqual(objects, objectsOf(world(numbers)));
+      assert.ok([...objects.values()].filter(object => before.get(object.ref) === object).length >= same);
+      before = objects;
+    }
+    assert.throws(() => before.get(1).fields.list.push(3), TypeError);
+    assert.throws(() => { before.get(1).fields.list[0].ref = 3; }, TypeError);
+  },
+  "a world is written once after each step": async () => {
+    let asked = 0;
+    const session = await joined(joins(), REST), { world } = session.page;
+    session.page.world = () => { asked++; return world.call(session.page); };
+    session.world();
+    session.digest();
+    assert.equal(session.world().get(2), session.world().get(2));
+    assert.equal(asked, 1);
+    StandInSocket.all[0].say("more");
+    session.text();
+    assert.equal(asked, 2);
+    session.shut();
+    assert.throws(() => session.world(), /has ended/);
   },
   "a join sends its frame, and the world is read": async () => {
     const session = await joined(joins(), REST);

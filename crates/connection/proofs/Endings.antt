@@ -9,6 +9,7 @@ use Rattle.wire_frames.specs.Reading.{client_at}
 use Rattle.wire_frames.specs.declared.frame.ClientFrame.{ClientFrame}
 use Rattle.wire_frames.specs.declared.frame.ServerFrame.{ServerFrame}
 use Rattle.wire_frames.specs.declared.frame.ServerFrame.TheVariants.{Sync}
+use Rattle.wire_frames.specs.declared.tags.TheConstants.{JOIN_TAG}
 use Rattle.reflector_core.specs.declared.keeper.CallFault.{CallFault}
 use Rattle.reflector_core.specs.declared.keeper.CallFault.TheVariants as fault
 use Rattle.reflector_core.specs.declared.request.Reply.{Reply}
@@ -97,22 +98,22 @@ refused_asked : (asked : List Exchange) (frame : ServerFrame) → EndNothing ask
 refused_asked asked frame none turned = (turned, turned, inl (none_ends asked none))
 
 early_asked : (early : Early) (frame : ClientFrame) → IsTurnedDown (code_in (early_frame early frame)) []
-early_asked OtherSession frame = omega arith
-early_asked NotJoined frame = omega arith
+early_asked OtherSession frame = inr (inr refl)
+early_asked NotJoined frame = inr (inl refl)
 
 opened_asked : (id : SessionId) (frame : ClientFrame) (now : ℕ) (r : Result Request Early) → first_request frame id now ≡ r → AskedTo [] (entered_phase frame r)
 opened_asked id frame now (Ok request) is = (refl, first_is_join frame id now request is)
 opened_asked id frame now (Err early) is = refused_asked [] (early_frame early frame) tt (early_asked early frame)
 
 read_first : (id : SessionId) (frame : Option ClientFrame) (now : ℕ) → AskedTo [] (opened_phase id frame now)
-read_first id None now = let code : 12 ≤ 13 = omega arith in refused_asked [] unread_frame tt code
+read_first id None now = refused_asked [] unread_frame tt (inl refl)
 read_first id (Some frame) now = opened_asked id frame now (first_request frame id now) refl
 
 joined_asked : (request : Request) (given : Reply) → IsJoin request → AskedTo (Answered request given ∷ []) (join_phase request given)
 joined_asked (Join view now want) (reply.Joined seq time last from base) is =
     let cursor : Cursor = record { view = view; joined = seq; after = from; last_tick = 0 } in
     telling_asked (Answered (Join view now want) (reply.Joined seq time last from base) ∷ []) cursor (Sync seq last from base ∷ []) (Ticking cursor 0) (refl, tt) (refl, tt)
-joined_asked (Join view now want) (reply.Refused refusal) is = refused_asked (Answered (Join view now want) (reply.Refused refusal) ∷ []) (refused_frame 1 refusal) (refl, tt) refl
+joined_asked (Join view now want) (reply.Refused refusal) is = refused_asked (Answered (Join view now want) (reply.Refused refusal) ∷ []) (refused_frame JOIN_TAG refusal) (refl, tt) refl
 joined_asked (Join view now want) (reply.Stamped seq time) is = tt
 joined_asked (Join view now want) (reply.Again seq time) is = tt
 joined_asked (Join view now want) (reply.Ticked time) is = tt

@@ -3,6 +3,9 @@ use Rattle.std.specs.Prelude.{◌≡◌, ◌⊎◌, ℕ, ◌+◌, ◌-◌, ◌^�
 use Rattle.std.specs.List.{AllByRecursion}
 use Rattle.tea_io.specs.Told.{Rose}
 use Rattle.tea_io.specs.Links.{Counts, most_quiets}
+use Rattle.wire_frames.specs.declared.tags.TheConstants.{JOIN_TAG}
+use Rattle.wire_frames.specs.declared.code.RefusalCode.TheVariants as codes
+use Rattle.wire_frames.specs.Codes.{code_number}
 use Rattle.reflector_core.specs.declared.keeper.CallFault.TheVariants as fault
 use Rattle.reflector_core.specs.declared.request.Request.TheVariants.{Join, Send, Leave, Offer}
 use Rattle.reflector_core.specs.declared.request.Reply.TheVariants.{Refused}
@@ -77,10 +80,10 @@ pub record LeavesStale (asked : List Exchange) : Type 0 where
   pub stale : EndsByReply (ended.Stale current) front
   pub leaves : IsLastLeave (leave ∷ [])
 
--- nothing was asked, or a Join that was refused
+-- nothing was asked, since the first frame is not read or no JOIN of this session; or a Join, which was refused
 abbrev pub IsTurnedDown : ℕ → List Exchange → Type 0
-IsTurnedDown code [] = 12 ≤ code
-IsTurnedDown code (Answered (Join view now want) (Refused refusal) ∷ []) = code ≡ code_in (refused_frame 1 refusal)
+IsTurnedDown code [] = (code ≡ code_number codes.BadFrame) ⊎ ((code ≡ code_number codes.NotJoined) ⊎ (code ≡ code_number codes.OtherSession))
+IsTurnedDown code (Answered (Join view now want) (Refused refusal) ∷ []) = code ≡ code_in (refused_frame JOIN_TAG refusal)
 IsTurnedDown code other = ⊥
 
 -- It ends as Left or Stale where a frame's request was answered so, as Refused where its first frame was, as Unkept where a call was not kept,

@@ -20,7 +20,7 @@ use std::alloc::Global;
 use std::sync::Wait;
 use tea_base::{Blob, TIME_LIMIT, WantOfMemory, What};
 use tea_io::{Clock, Link, LinkFault};
-use wire_frames::{Base, ServerFrame, typed_server, write_server};
+use wire_frames::{Base, NO_TAG, RefusalCode, ServerFrame, typed_server, write_server};
 
 /// Whether bytes are no more than their field can count.
 fn is_short(bytes: &Blob) -> bool
@@ -198,8 +198,8 @@ pub fn unread_frame() -> ServerFrame
     ensures { result ≡ unread_frame }
 {
     ServerFrame::Refused {
-        about: 0,
-        code: 13,
+        about: NO_TAG,
+        code: RefusalCode::BadFrame.number(),
         kept: 0,
         more: 0,
     }

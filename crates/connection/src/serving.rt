@@ -1,5 +1,5 @@
 //! A connection from its first frame to its end.
-ghost use Rattle.std.specs.Prelude.{◌≡◌, List, [], ◌∷◌, ◌++◌};
+ghost use Rattle.std.specs.Prelude.{◌≡◌, true, List, [], ◌∷◌, ◌++◌};
 ghost use Rattle.session_lock.specs.declared.knowledge.Item.{Item};
 ghost use Rattle.session_lock.specs.History.{calls_of};
 ghost use Rattle.session_lock.specs.Passes.{caller};
@@ -43,7 +43,7 @@ fn talk<C: Clock, R: Wait, K: Keeper, L: Link>(
 }
 
 /// Talks, and leaves where that is left to do.
-fn serve<C: Clock, R: Wait, K: Keeper, L: Link>(
+fn talk_to_end<C: Clock, R: Wait, K: Keeper, L: Link>(
     service: &Service<'_, C, R, K>,
     pass: &mut Pass<K>,
     link: &mut L,
@@ -62,8 +62,25 @@ fn serve<C: Clock, R: Wait, K: Keeper, L: Link>(
     }
 }
 
-/// Serves a connection from its first frame to its end. The pass's own caller has made no call yet. A call that is not kept has no answer,
-/// and ends the connection as Unkept.
+/// Talks to the end, and then closes the link.
+fn serve<C: Clock, R: Wait, K: Keeper, L: Link>(
+    service: &Service<'_, C, R, K>,
+    pass: &mut Pass<K>,
+    link: &mut L,
+) -> Ended
+    requires session { pass.old.session ≡ service.now.shared.now.session }
+    ensures kept { pass.new ≡ record pass.old { seen = pass.new.seen } }
+    ensures talk { TalksOn (IsMadeSo (C.gives service.now.clock.now) (SomeShut K.shut)) service.now.id (Opening 0) (Over result)
+        (account pass.old (link_account L.heard L.sent L.counts link.old)) (account pass.new (link_account L.heard L.sent L.counts link.new)) }
+    ensures closed { L.closed link.new ≡ true }
+{
+    let ended = talk_to_end(service, pass, link);
+    link.close();
+    ended
+}
+
+/// Serves a connection from its first frame to its end, and then closes its link. The pass's own caller has made no call yet. A call that
+/// is not kept has no answer, and ends the connection as Unkept.
 pub fn serve_connection<L: Link, C: Clock, R: Wait, K: Keeper>(
     rt: &R,
     alloc: Global,
@@ -81,6 +98,7 @@ pub fn serve_connection<L: Link, C: Clock, R: Wait, K: Keeper>(
     ensures exactly { EndsExactly result (exchanges_in pass.new.opening pass.new.seen (caller pass.new)) }
     ensures unkept { result ≡ ended.Unkept → SomeShut K.shut }
     ensures cause { IsCauseCounted (L.counts link.old) (L.counts link.new) result }
+    ensures closed { L.closed link.new ≡ true }
 {
     let service = Service {
         rt,

@@ -96,6 +96,8 @@ impl<R: Eprint + Clock + Copy, L: Link> Link for ToldLink<R, L> {
 
     ghost counts = { λ told. L.counts told.link };
 
+    ghost closed = { λ told. L.closed told.link };
+
     fn recv(&mut self) -> Heard {
         let heard = self.link.recv();
         tell_heard(&self.rt, &mut self.guest, &heard);
@@ -112,5 +114,9 @@ impl<R: Eprint + Clock + Copy, L: Link> Link for ToldLink<R, L> {
             watch.send(frame);
         }
         sent
+    }
+
+    fn close(&mut self) {
+        self.link.close();
     }
 }

@@ -11,7 +11,8 @@ use std::alloc::Global;
 /// Makes an empty seat, and writes its handle. 0: it is there. 8: memory was wanted, and nothing was written.
 #[unsafe(no_mangle)]
 pub extern "C" fn page_seat(alloc: Global, place: &mut *mut u8) -> u32
-    ensures { (result ≡ 0) ⊎ (result ≡ 8) }
+    ensures answers { (result ≡ 0) ⊎ (result ≡ 8) }
+    ensures unwritten { result ≡ 8 → place.new ≡ place.old }
 {
     match Box::new(alloc, Seat::new(alloc)) {
         Ok(seat) => {
@@ -82,7 +83,8 @@ pub extern "C" fn page_text(handle: &mut Handle, room: &mut [u8]) -> u64
 /// Closes the page: the seat is empty, and another page may be opened in it.
 #[unsafe(no_mangle)]
 pub extern "C" fn page_close(handle: &mut Handle)
-    ensures { handle.new.seat.page ≡ None }
+    ensures page { handle.new.seat.page ≡ None }
+    ensures line { handle.new.seat.line ≡ handle.old.seat.line }
 {
     handle.get().close();
 }

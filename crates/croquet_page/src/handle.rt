@@ -25,7 +25,7 @@ impl Handle {
     ghost use Rattle.std.specs.Borrow.{sem};
     ghost use Rattle.croquet_page.specs.Lending.{LendsSeat};
 
-    /// The seat. This is the one function with a proof by hand.
+    /// The seat. This is the one function whose whole proof is written by hand.
     pub fn get(&mut self) -> &mut Seat
         ensures* lends { sem 𝓛 (LendsSeat self.entry result) }
         ensures seat { result.now ≡ self.old.seat }

@@ -4,6 +4,7 @@ use std::io::ErrorKind;
 use std::str;
 use tea_base::{Text, WantOfMemory};
 use text_lines::split_words;
+use wire_frames::RefusalCode;
 
 /// A call of a file that failed.
 #[derive(Debug, Drop)]
@@ -107,36 +108,45 @@ pub fn net_hint(
 }
 
 /// What a code of a refusal means, and what to do.
-fn code_text(code: &str) -> &'static str {
+fn code_text(code: Option<RefusalCode>) -> &'static str {
     match code {
-        "1" =>
+        Some(RefusalCode::Stale) =>
             "stale: the view has joined by another link since, or is not here. Give each view a number of its own",
-        "2" =>
+        Some(RefusalCode::TooLong) =>
             "too-long: a payload has more than 4,096 bytes, or a snapshot more than 4,194,304. Send less, keep less in the world",
-        "3" =>
+        Some(RefusalCode::Differs) =>
             "differs: the view has sent another event with this number. Two clients use one VIEW: take another one",
-        "4" => "gap: the number of the event is not the view's next one. Take another VIEW",
-        "5" => "log-full: the log has no room left. Begin another session",
-        "6" => "time-end: the time of the session has ended. Begin another session",
-        "7" => "views-full: 1,024 views are here. Wait until one leaves",
-        "8" => "bad-view: the number of the view is 0. Take one from 1 on",
-        "9" =>
+        Some(RefusalCode::Gap) =>
+            "gap: the number of the event is not the view's next one. Take another VIEW",
+        Some(RefusalCode::LogFull) => "log-full: the log has no room left. Begin another session",
+        Some(RefusalCode::TimeEnd) =>
+            "time-end: the time of the session has ended. Begin another session",
+        Some(RefusalCode::ViewsFull) => "views-full: 1,024 views are here. Wait until one leaves",
+        Some(RefusalCode::BadView) => "bad-view: the number of the view is 0. Take one from 1 on",
+        Some(RefusalCode::Ahead) =>
             "ahead: the view was in another session, or in a run whose reflector was killed. Join as a new VIEW",
-        "12" =>
+        Some(RefusalCode::OtherSession) =>
             "another session: PROGRAM, NAME and the persisted value have to be those of the reflector, to the last byte",
-        "13" => "no frame: the reflector could not read what it was sent. Are both of one release?",
-        "14" => "not joined: the reflector was sent a frame before JOIN",
-        "15" => "joined already: the reflector was sent a second JOIN on one link",
-        _ => "a code that this program does not know",
+        Some(RefusalCode::BadFrame) =>
+            "no frame: the reflector could not read what it was sent. Are both of one release?",
+        Some(RefusalCode::NotJoined) => "not joined: the reflector was sent a frame before JOIN",
+        Some(RefusalCode::AlreadyJoined) =>
+            "joined already: the reflector was sent a second JOIN on one link",
+        Some(RefusalCode::Older | RefusalCode::NoSuchSeq) | None =>
+            "a code that this program does not know",
     }
+}
+
+/// The code that a word names by its number, if it names one.
+fn read_code(word: &str) -> Option<RefusalCode> {
+    RefusalCode::of(word.parse::<u8>().ok()?)
 }
 
 /// A hint on a line `refused CODE KEPT`.
 pub fn refused_hint(alloc: Global, line: &[u8]) -> Result<String, WantOfMemory> {
     let text = str::from_utf8(line).unwrap_or_default();
     let words = split_words(alloc, text.trim_end())?;
-    let code = words.get(1).copied().unwrap_or_default();
-    let meaning = code_text(code);
+    let meaning = code_text(read_code(words.get(1).copied().unwrap_or_default()));
     let message = format!(in alloc; "the reflector refused it, {meaning}")?;
     plain_hint(alloc, message.as_str())
 }

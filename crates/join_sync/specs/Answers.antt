@@ -6,6 +6,7 @@ use Rattle.reflector_core.specs.declared.request.Reply.{Reply}
 use Rattle.reflector_core.specs.declared.request.Reply.TheVariants as reply
 use Rattle.wire_frames.specs.declared.frame.ServerFrame.{ServerFrame}
 use Rattle.wire_frames.specs.declared.frame.ServerFrame.TheVariants.{Sync, Done, Snapped}
+use Rattle.wire_frames.specs.declared.tags.TheConstants.{JOIN_TAG, SEND_TAG, SNAP_TAG, LEAVE_TAG}
 use Rattle.join_sync.specs.declared.cursor.Cursor.{Cursor}
 use Rattle.join_sync.specs.Refusals.{refused_frame}
 
@@ -13,7 +14,7 @@ use Rattle.join_sync.specs.Refusals.{refused_frame}
 
 abbrev pub join_answer : Reply → Option ServerFrame
 join_answer (reply.Joined seq time last from base) = Some (Sync seq last from base)
-join_answer (reply.Refused refusal) = Some (refused_frame 1 refusal)
+join_answer (reply.Refused refusal) = Some (refused_frame JOIN_TAG refusal)
 join_answer other = None
 
 -- the cursor of a connection that has joined: no entry and no tick was sent
@@ -26,17 +27,17 @@ first_cursor view other = None
 abbrev pub send_answer : ℕ → Reply → Option ServerFrame
 send_answer number (reply.Stamped seq time) = Some (Done number seq time)
 send_answer number (reply.Again seq time) = Some (Done number seq time)
-send_answer number (reply.Refused refusal) = Some (refused_frame 2 refusal)
+send_answer number (reply.Refused refusal) = Some (refused_frame SEND_TAG refusal)
 send_answer number other = None
 
 abbrev pub snap_answer : ℕ → Reply → Option ServerFrame
 snap_answer time reply.Kept = Some (Snapped time)
-snap_answer time (reply.Refused refusal) = Some (refused_frame 3 refusal)
+snap_answer time (reply.Refused refusal) = Some (refused_frame SNAP_TAG refusal)
 snap_answer time other = None
 
 -- a view that has left is not told
 abbrev pub leave_answer : Reply → Option ServerFrame
-leave_answer (reply.Refused refusal) = Some (refused_frame 4 refusal)
+leave_answer (reply.Refused refusal) = Some (refused_frame LEAVE_TAG refusal)
 leave_answer other = None
 
 -- the frame that answers the frame of a request, if one does; no frame asks for a Tick or a Pull

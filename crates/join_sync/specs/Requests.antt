@@ -12,6 +12,7 @@ use Rattle.join_sync.specs.declared.early.Early.TheVariants.{OtherSession, NotJo
 use Rattle.join_sync.specs.declared.act.Act.{Act}
 use Rattle.join_sync.specs.declared.act.Act.TheVariants.{Call, Answer}
 use Rattle.join_sync.specs.declared.cursor.Cursor.{Cursor}
+use Rattle.join_sync.specs.Refusals.{second_join_frame}
 
 -- the request of the first frame, which has to be a JOIN of this session
 abbrev pub first_request : ClientFrame → SessionId → ℕ → Result Request Early
@@ -28,7 +29,7 @@ IsJoin other = ⊥
 
 -- what a later frame comes to: a request of the view by this connection, or an answer for which nothing is asked; a second JOIN is refused
 abbrev pub act_on : Cursor → ClientFrame → ℕ → Act
-act_on cursor (Join session view want) now = Answer (server.Refused 1 15 0 0)
+act_on cursor (Join session view want) now = Answer second_join_frame
 act_on cursor (Send number payload) now = Call (request.Send cursor.view cursor.joined number payload now)
 act_on cursor (Snap time bytes) now = Call (request.Offer cursor.view cursor.joined time bytes)
 act_on cursor Leave now = Call (request.Leave cursor.view cursor.joined now)

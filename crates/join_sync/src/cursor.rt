@@ -6,13 +6,10 @@ use crate::frames::{
 use reflector_core::{Reply, Request};
 use std::alloc::Global;
 use tea_base::WantOfMemory;
-use wire_frames::{ClientFrame, JOIN_TAG, ServerFrame, ServerFrames};
+use wire_frames::{ClientFrame, JOIN_TAG, RefusalCode, ServerFrame, ServerFrames};
 
 /// A Pull of a connection asks for so many entries at most.
 pub const MOST_PULLED: u32 = 256;
-
-/// The number by which a frame tells that the view has joined already.
-const ALREADY_JOINED: u8 = 15;
 
 /// How far a connection of a view that has joined was sent the log.
 #[derive(Clone, Copy, Debug, PartialEq, Eq)]
@@ -81,7 +78,7 @@ impl Cursor {
         match frame {
             ClientFrame::Join { .. } => Act::Answer(ServerFrame::Refused {
                 about: JOIN_TAG,
-                code: ALREADY_JOINED,
+                code: RefusalCode::AlreadyJoined.number(),
                 kept: 0,
                 more: 0,
             }),

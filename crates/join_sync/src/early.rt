@@ -5,7 +5,7 @@ ghost use Rattle.join_sync.specs.Requests.{first_request};
 use crate::frames::tag;
 use reflector_core::Request;
 use tea_base::SessionId;
-use wire_frames::{ClientFrame, ServerFrame};
+use wire_frames::{ClientFrame, RefusalCode, ServerFrame};
 
 /// Why a connection is refused before its session is asked.
 #[derive(Clone, Copy, Debug, PartialEq, Eq)]
@@ -19,13 +19,13 @@ pub enum Early {
 impl Early {
     ghost use Rattle.join_sync.specs.Refusals.{early_code, early_frame};
 
-    /// The number by which a frame tells it.
-    fn code(self) -> u8
+    /// The code by which a frame tells it.
+    fn code(self) -> RefusalCode
         ensures { result ≡ early_code self }
     {
         match self {
-            Early::OtherSession => 12,
-            Early::NotJoined => 14,
+            Early::OtherSession => RefusalCode::OtherSession,
+            Early::NotJoined => RefusalCode::NotJoined,
         }
     }
 
@@ -35,7 +35,7 @@ impl Early {
     {
         ServerFrame::Refused {
             about: tag(first),
-            code: self.code(),
+            code: self.code().number(),
             kept: 0,
             more: 0,
         }

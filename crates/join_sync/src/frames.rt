@@ -9,7 +9,8 @@ use reflector_core::{Refusal, Reply};
 use std::alloc::Global;
 use tea_base::{Entries, WantOfMemory};
 use wire_frames::{
-    ALIVE_TAG, ClientFrame, JOIN_TAG, LEAVE_TAG, SEND_TAG, SNAP_TAG, ServerFrame, ServerFrames,
+    ALIVE_TAG, ClientFrame, JOIN_TAG, LEAVE_TAG, RefusalCode, SEND_TAG, SNAP_TAG, ServerFrame,
+    ServerFrames,
 };
 
 // ---- answers
@@ -32,21 +33,21 @@ pub fn refused_frame(about: u8, refusal: Refusal) -> ServerFrame
     ensures { result ≡ refused_frame about refusal }
 {
     let (code, kept, more) = match refusal {
-        Refusal::Stale { current } => (1, u64::from(current), 0),
-        Refusal::TooLong { len } => (2, u64::from(len), 0),
-        Refusal::Differs { seq } => (3, u64::from(seq), 0),
-        Refusal::Gap { expected } => (4, u64::from(expected), 0),
-        Refusal::LogFull { entries, bytes } => (5, u64::from(entries), bytes),
-        Refusal::TimeEnd { horizon } => (6, horizon, 0),
-        Refusal::ViewsFull { here } => (7, u64::from(here), 0),
-        Refusal::BadView => (8, 0, 0),
-        Refusal::Ahead { horizon } => (9, horizon, 0),
-        Refusal::Older { kept } => (10, kept, 0),
-        Refusal::NoSuchSeq { len } => (11, u64::from(len), 0),
+        Refusal::Stale { current } => (RefusalCode::Stale, u64::from(current), 0),
+        Refusal::TooLong { len } => (RefusalCode::TooLong, u64::from(len), 0),
+        Refusal::Differs { seq } => (RefusalCode::Differs, u64::from(seq), 0),
+        Refusal::Gap { expected } => (RefusalCode::Gap, u64::from(expected), 0),
+        Refusal::LogFull { entries, bytes } => (RefusalCode::LogFull, u64::from(entries), bytes),
+        Refusal::TimeEnd { horizon } => (RefusalCode::TimeEnd, horizon, 0),
+        Refusal::ViewsFull { here } => (RefusalCode::ViewsFull, u64::from(here), 0),
+        Refusal::BadView => (RefusalCode::BadView, 0, 0),
+        Refusal::Ahead { horizon } => (RefusalCode::Ahead, horizon, 0),
+        Refusal::Older { kept } => (RefusalCode::Older, kept, 0),
+        Refusal::NoSuchSeq { len } => (RefusalCode::NoSuchSeq, u64::from(len), 0),
     };
     ServerFrame::Refused {
         about,
-        code,
+        code: code.number(),
         kept,
         more,
     }

@@ -5,15 +5,16 @@ ghost use Rattle.tea_io.specs.MemNet.{HasNoCounts};
 use std::alloc::Global;
 use tea_base::{Blob, Numbers, WantOfMemory, push};
 use tea_io::{Blobs, MemLink};
+use wire_frames::{JOIN_TAG, LEAVE_TAG, SEND_TAG};
 
-pub const LEAVE: &[u8] = &[4];
+pub const LEAVE: &[u8] = &[LEAVE_TAG];
 
 /// The first event, without a payload.
-pub const FIRST_SEND: &[u8] = &[2, 0, 0, 0, 1, 0, 0, 0, 0];
+pub const FIRST_SEND: &[u8] = &[SEND_TAG, 0, 0, 0, 1, 0, 0, 0, 0];
 
 /// A JOIN of the session whose id is 32 sevens; it asks for the whole log.
 fn join_frame(alloc: Global, view: u8) -> Result<Blob, WantOfMemory> {
-    let mut bytes = vec![in alloc; 1]?;
+    let mut bytes = vec![in alloc; JOIN_TAG]?;
     put_all(&mut bytes, &[7; 32])?;
     put_all(&mut bytes, &[0, 0, 0, view, 1])?;
     Ok(Blob::from_vec(bytes))

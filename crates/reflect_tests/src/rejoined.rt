@@ -10,13 +10,19 @@ use std::sync::Wait;
 use std::test::Fail;
 use tea_base::SessionId;
 use tea_io::{FixedClock, Heard, Link, LinkFault, MemLink};
+use wire_frames::{RefusalCode, SEND_TAG, ServerFrame, write_server};
 
 const ID: SessionId = SessionId([7; 32]);
 
 const VIEW: u32 = 7;
 
 /// The frame that refuses a SEND as that of an old connection, where the view's last join is the entry 2.
-const STALE_SEND: &[u8] = &[70, 2, 1, 0, 0, 0, 0, 0, 0, 0, 2, 0, 0, 0, 0, 0, 0, 0, 0];
+const STALE_SEND: ServerFrame = ServerFrame::Refused {
+    about: SEND_TAG,
+    code: RefusalCode::Stale as u8,
+    kept: 2,
+    more: 0,
+};
 
 /// A link of the view. Between its first two frames another pass joins as this view.
 #[derive(Drop)]
@@ -51,6 +57,8 @@ impl<'a, R: Wait> Link for RejoinedLink<'a, R> {
 
     ghost counts = { λ link. link.link.counts };
 
+    ghost closed = { λ link. link.link.closed };
+
     fn recv(&mut self) -> Heard {
         self.receives = self.receives.saturating_add(1);
         if self.receives == 2 {
@@ -61,6 +69,10 @@ impl<'a, R: Wait> Link for RejoinedLink<'a, R> {
 
     fn send(&mut self, frame: &[u8]) -> Result<(), LinkFault> {
         self.link.send(frame)
+    }
+
+    fn close(&mut self) {
+        self.link.close();
     }
 }
 
@@ -79,10 +91,11 @@ fn is_refused_as_stale<R: Wait>(rt: &R, alloc: Global) -> Result<bool, Fail> {
     };
     let clock = FixedClock { at: 0 };
     let ended = serve_connection(rt, alloc, &shared, &mut first, ID, &mut link, &clock);
+    let refused = write_server(alloc, &STALE_SEND)?;
     let sent = link.link.sent().last();
     Ok(
         ended == Ended::Stale { current: 2 }
-            && matches!(sent, Some(frame) if frame.is_bytes(STALE_SEND)),
+            && matches!(sent, Some(frame) if frame.is_bytes(refused.bytes())),
     )
 }
 

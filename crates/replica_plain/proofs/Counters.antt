@@ -7,6 +7,9 @@ use Rattle.wire_frames.specs.declared.start.Base.{Base}
 use Rattle.wire_frames.specs.declared.start.Want.TheVariants.{After}
 use Rattle.wire_frames.specs.declared.frame.ServerFrame.{ServerFrame}
 use Rattle.wire_frames.specs.declared.frame.ServerFrame.TheVariants.{Sync, Recv, Tick, Done, Refused, Alive}
+use Rattle.wire_frames.specs.declared.tags.TheConstants.{JOIN_TAG, SEND_TAG, SNAP_TAG}
+use Rattle.wire_frames.specs.declared.code.RefusalCode.TheVariants as code
+use Rattle.wire_frames.specs.Codes.{code_number}
 use Rattle.replica_plain.specs.declared.how.How.TheVariants.{Fresh, Whole, Resume}
 use Rattle.replica_plain.specs.declared.fault.ReplicaFault.{ReplicaFault}
 use Rattle.replica_plain.specs.declared.fault.ReplicaFault.TheVariants as cause
@@ -70,8 +73,8 @@ memory_was_wanted : lost_at counters answered_view (Tick 9)
     ≡ Some (record { view = 7; world = record { at = 0; entries = 0 }; out = []; broken = true; seen = 1; outbox = (6 ∷ []) ∷ []; acknowledged = 1; given = 2; awaited = None; synced = true; base = None })
 memory_was_wanted = refl
 
-a_refused_join_is_not_awaited : taken counters (joining answered_view Resume) (Refused 1 15 3 0)
-    ≡ record { replica = record answered_view { given = 1; synced = false }; fault = Some (cause.Refused 1 15 3) }
+a_refused_join_is_not_awaited : taken counters (joining answered_view Resume) (Refused JOIN_TAG (code_number code.AlreadyJoined) 3 0)
+    ≡ record { replica = record answered_view { given = 1; synced = false }; fault = Some (cause.Refused JOIN_TAG (code_number code.AlreadyJoined) 3) }
 a_refused_join_is_not_awaited = refl
 
 -- ---- what a frame is refused for
@@ -110,10 +113,10 @@ it_is_answered_again = refl
 nothing_is_to_be_answered : fault_at (taken_all counters (joining (new_replica counters 7) Whole) (Sync 1 0 0 None ∷ [])) (Done 1 2 10) ≡ Some (cause.OutOfOrder 1 1)
 nothing_is_to_be_answered = refl
 
-a_refused_snapshot_is_taken : taken counters answered_view (Refused 3 7 12 0) ≡ record { replica = answered_view; fault = None }
+a_refused_snapshot_is_taken : taken counters answered_view (Refused SNAP_TAG (code_number code.ViewsFull) 12 0) ≡ record { replica = answered_view; fault = None }
 a_refused_snapshot_is_taken = refl
 
-a_refused_event_is_told : taken counters answered_view (Refused 2 5 12 0) ≡ record { replica = answered_view; fault = Some (cause.Refused 2 5 12) }
+a_refused_event_is_told : taken counters answered_view (Refused SEND_TAG (code_number code.LogFull) 12 0) ≡ record { replica = answered_view; fault = Some (cause.Refused SEND_TAG (code_number code.LogFull) 12) }
 a_refused_event_is_told = refl
 
 -- a frame before any join, and a Sync of a join of each kind, in the order of its tests

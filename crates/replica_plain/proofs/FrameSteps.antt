@@ -8,6 +8,7 @@ use Rattle.tea_base.specs.Readings.{count_until}
 use Rattle.tea_base.proofs.LogLaws.{TimesRise-legal}
 use Rattle.wire_frames.specs.declared.frame.ServerFrame.{ServerFrame}
 use Rattle.wire_frames.specs.declared.frame.ServerFrame.TheVariants.{Sync, Recv, Tick, Done, Snapped, Refused, Alive}
+use Rattle.wire_frames.specs.declared.tags.TheConstants.{JOIN_TAG, SNAP_TAG}
 use Rattle.wire_frames.specs.Served.{Place, place_after, place_after_all, ComesAt, Streams}
 use Rattle.replica_plain.specs.declared.fault.ReplicaFault.{ReplicaFault}
 use Rattle.replica_plain.specs.declared.fault.ReplicaFault.TheVariants as cause
@@ -128,7 +129,7 @@ behind_frame m laws log place r (Snapped time) legal stands comes =
     subst (StandsBehind m log place (Snapped time)) (sym (when_synced_is r (takes r) stands.synced)) (record { stands = stands; read = tt })
 behind_frame m laws log place r (Refused about code kept more) legal stands comes =
     record {
-      stands = refused_stands_if m log place r _ (eqb about 3) (eqb about 1) (cause.Refused about code kept) (record { world = refl; seen = refl; broken = refl; synced = refl }) stands;
+      stands = refused_stands_if m log place r _ (eqb about SNAP_TAG) (eqb about JOIN_TAG) (cause.Refused about code kept) (record { world = refl; seen = refl; broken = refl; synced = refl }) stands;
       read = tt;
     }
 behind_frame m laws log place r Alive legal stands comes = record { stands = stands; read = tt }

@@ -3,6 +3,7 @@ use Rattle.std.proofs.Common.{ℕ, ◌+◌, ◌≡◌, ◌≤◌, ◌<◌, ◌�
 use Rattle.wire_frames.specs.declared.start.Base.{Base}
 use Rattle.wire_frames.specs.declared.frame.ServerFrame.{ServerFrame}
 use Rattle.wire_frames.specs.declared.frame.ServerFrame.TheVariants.{Sync, Recv, Tick, Done, Snapped, Refused, Alive}
+use Rattle.wire_frames.specs.declared.tags.TheConstants.{JOIN_TAG, SNAP_TAG}
 use Rattle.replica_plain.specs.declared.fault.ReplicaFault.{ReplicaFault}
 use Rattle.replica_plain.specs.declared.fault.ReplicaFault.TheVariants as cause
 use Rattle.replica_plain.specs.declared.how.How.{How}
@@ -85,7 +86,7 @@ done_counted r (payload ∷ rest) number held are =
     counted_if (eqb number (r.acknowledged + 1)) _ _ (record { least = grind arith; few = grind arith; most = omega arith }) are
 
 refused_counted : {W O : Type 0} (r : PlainReplica W O) (about code kept : ℕ) → AreCounted r → AreCounted (take_refused r about code kept).replica
-refused_counted r about code kept are = counted_if (eqb about 3) _ _ are (counted_if (eqb about 1) _ _ (counted_so r _ refl refl refl are) are)
+refused_counted r about code kept are = counted_if (eqb about SNAP_TAG) _ _ are (counted_if (eqb about JOIN_TAG) _ _ (counted_so r _ refl refl refl are) are)
 
 pub taken_counted : {W O : Type 0} (m : Worlds W O) (r : PlainReplica W O) (frame : ServerFrame) → AreCounted r → AreCounted (taken m r frame).replica
 taken_counted m r (Sync joined last from base) are = counted_by r _ (sync_answers m r r.awaited last from base) are

@@ -5,6 +5,7 @@ use Rattle.tea_base.specs.Limits.{time_limit}
 use Rattle.wire_frames.specs.declared.start.Base.{Base}
 use Rattle.wire_frames.specs.declared.frame.ServerFrame.{ServerFrame}
 use Rattle.wire_frames.specs.declared.frame.ServerFrame.TheVariants.{Sync, Recv, Tick, Done, Snapped, Refused, Alive}
+use Rattle.wire_frames.specs.declared.tags.TheConstants.{JOIN_TAG, SNAP_TAG}
 use Rattle.replica_plain.specs.declared.how.How.{How}
 use Rattle.replica_plain.specs.declared.how.How.TheVariants.{Fresh, Whole, Resume}
 use Rattle.replica_plain.specs.declared.fault.ReplicaFault.{ReplicaFault}
@@ -112,8 +113,8 @@ take_done r (payload ∷ rest) number =
 -- a refused join is not awaited any more; that a snapshot is refused changes nothing
 abbrev pub take_refused : {W O : Type 0} → PlainReplica W O → ℕ → ℕ → ℕ → Taken W O
 take_refused r about code kept =
-    if about == 3 then takes r
-    else if about == 1 then faults (record r { awaited = None }) (cause.Refused about code kept)
+    if about == SNAP_TAG then takes r
+    else if about == JOIN_TAG then faults (record r { awaited = None }) (cause.Refused about code kept)
     else faults r (cause.Refused about code kept)
 
 -- ---- the table

@@ -2,16 +2,10 @@
 use std::alloc::Global;
 use tea_base::WantOfMemory;
 use tea_io::{Heard, LinkFault, MOST_QUIETS};
-use wire_frames::{ClientFrame, JOIN_TAG, LEAVE_TAG, ServerFrame, read_client, read_server};
-
-/// The tag of the frame that says that a view has joined.
-const SYNC_TAG: u8 = 65;
-
-/// The tag of the frame that says that a frame of the client is refused.
-const REFUSED_TAG: u8 = 70;
-
-/// The code of a refusal whose view has joined by another link since.
-const STALE: u8 = 1;
+use wire_frames::{
+    ClientFrame, JOIN_TAG, LEAVE_TAG, REFUSED_TAG, RefusalCode, SYNC_TAG, ServerFrame, read_client,
+    read_server,
+};
 
 /// How far a client is.
 #[derive(Clone, Copy, Debug, PartialEq, Eq)]
@@ -144,7 +138,7 @@ impl Guest {
                 self.stage = Stage::Over;
                 Some(Note::Refused(code))
             }
-            Stage::Joined | Stage::Left if code == STALE => {
+            Stage::Joined | Stage::Left if code == RefusalCode::Stale.number() => {
                 self.stage = Stage::Over;
                 Some(Note::Over(Way::Stale))
             }
@@ -215,15 +209,17 @@ fn way_text(way: Way, is_unknown: bool) -> &'static str {
 
 /// Why a first frame is refused.
 fn code_text(code: u8) -> &'static str {
-    match code {
-        5 => "the log has no room left",
-        6 => "the time of the session has ended",
-        7 => "1,024 views are here",
-        8 => "the number of a view is from 1 on",
-        9 => "the view comes from another session, or from a run whose reflector was killed",
-        12 => "another session: its PROGRAM, its NAME or its persisted value is another one",
-        13 => "its first frame is none",
-        14 => "its first frame is no JOIN",
+    match RefusalCode::of(code) {
+        Some(RefusalCode::LogFull) => "the log has no room left",
+        Some(RefusalCode::TimeEnd) => "the time of the session has ended",
+        Some(RefusalCode::ViewsFull) => "1,024 views are here",
+        Some(RefusalCode::BadView) => "the number of a view is from 1 on",
+        Some(RefusalCode::Ahead) =>
+            "the view comes from another session, or from a run whose reflector was killed",
+        Some(RefusalCode::OtherSession) =>
+            "another session: its PROGRAM, its NAME or its persisted value is another one",
+        Some(RefusalCode::BadFrame) => "its first frame is none",
+        Some(RefusalCode::NotJoined) => "its first frame is no JOIN",
         _ => "its JOIN may not come now",
     }
 }

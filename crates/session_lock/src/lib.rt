@@ -1,6 +1,7 @@
 //! One session that threads share: a ticket lock round it, whose history replays.
 #![tactic(auto)]
 
+mod bells;
 mod held;
 pub mod knowledge;
 mod laws;

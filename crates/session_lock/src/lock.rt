@@ -15,6 +15,7 @@ ghost use Rattle.session_lock.specs.declared.held.KeptSession.{KeptSession};
 ghost use Rattle.session_lock.specs.declared.knowledge.Knowledge.{Knowledge};
 ghost use Rattle.session_lock.specs.Passes.{Replied, Voided, Missed, Caught, Given, Merged, HeldOnce, HoldsEach, UsedNoSpare, first_pass, caller, numbers_held, own_calls};
 
+use crate::bells::Bells;
 use crate::held::{KeptSession, Waiting};
 use crate::knowledge::Knowledge;
 use crate::rule::{
@@ -66,6 +67,10 @@ impl<K> Model for Pass<K> {
 #[derive(Drop)]
 pub struct SharedSession<T: Trust, K: Keeper = NoKeeper> {
     table: Table<KeptSession<K>, Knowledge, (SessionId, T, Mark<K>), Law<T, K>, Global>,
+    // Rung for the ticket that is served.
+    turns: Bells,
+    // Rung for the item that may come into the history.
+    items: Bells,
 }
 
 impl<T: Trust, K: Keeper> Model for SharedSession<T, K> {
@@ -214,13 +219,26 @@ impl<T: Trust, K: Keeper> SharedSession<T, K> {
             Ok(made) => made,
             Err(_) => return Err(Unmade::of(kept, trust)),
         };
+        let Ok(turns) = Bells::new(alloc) else {
+            return Err(Unmade::of(kept, trust));
+        };
+        let Ok(items) = Bells::new(alloc) else {
+            return Err(Unmade::of(kept, trust));
+        };
         let key = (id, trust, mark);
         let mut slots = Vec::new(alloc);
         if let Err(AllocFailed { value: kept }) = slots.push(kept) {
             return Err(Unmade::of(kept, key.1));
         }
         match Table::new(alloc, &[0, 0, 0], slots, &key) {
-            Ok((table, seat)) => Ok((SharedSession { table }, Pass { seat })),
+            Ok((table, seat)) => Ok((
+                SharedSession {
+                    table,
+                    turns,
+                    items,
+                },
+                Pass { seat },
+            )),
             Err(Refused { mut slots }) => {
                 let Some(kept) = slots.pop() else {
                     unreachable!()
@@ -332,7 +350,7 @@ impl<T: Trust, K: Keeper> SharedSession<T, K> {
         ensures events { TellsItsEvents pass.opening.log (history_requests pass.seen)
             (replies_from pass.opening (history_requests pass.seen)) result.0.plain.log }
     {
-        let SharedSession { table } = self;
+        let SharedSession { table, .. } = self;
         let Pass { seat } = pass;
         let mut closed = table.close_with(seat);
         let kept = closed.take(0);
@@ -434,9 +452,12 @@ impl<T: Trust, K: Keeper> SharedSession<T, K> {
     {
         if self.reach::<J, R>(rt, seat, place) {
             self.end::<J>(seat, &hoped);
+            self.items.ring(place.wrapping_add(1));
             return hoped;
         }
-        self.again::<J>(seat, request)
+        let made = self.again::<J>(seat, request);
+        self.items.ring(place.wrapping_add(1));
+        made
     }
 
     // Takes turns until the call that waits behind so many items is the next and is safe, or was lost, and tells whether it
@@ -452,18 +473,26 @@ impl<T: Trust, K: Keeper> SharedSession<T, K> {
         ensures lost { result ≡ false → IsLostInTurn J.trusted (KeepsHoped K.holds K.writes K.shut K.faults J.first) seat.old.me.0 seat.new.me }
     {
         for _ in rt.forever() {
+            self.await_item(rt, place);
             self.enter::<J, R>(rt, seat);
             match self.settle(seat, place) {
                 Waiting::Ended => return true,
                 Waiting::Lost => return false,
-                Waiting::GoesOn => {
-                    self.release::<J>(seat);
-                    // lets whose item comes first draw its ticket
-                    thread::yield_now();
-                }
+                Waiting::GoesOn => self.release::<J>(seat),
             }
         }
         unreachable!()
+    }
+
+    // Sleeps until the history has so many items. This is for speed alone.
+    fn await_item<R: Wait>(&self, rt: &R, place: u64) {
+        for _ in rt.forever() {
+            let rung = self.items.rung(place);
+            if self.table.shared.peek(DONE) >= place {
+                return;
+            }
+            self.items.sleep(rt, place, rung);
+        }
     }
 
     // Makes a call again that was lost.
@@ -532,8 +561,8 @@ impl<T: Trust, K: Keeper> SharedSession<T, K> {
         ensures table { seat.new.table_id ≡ self.now.session }
         ensures released { seat.new.me ≡ (with_rest seat.old.me.0, []) }
     {
-        self.table.shared.fetch_add::<Release>(seat, SERVING, 1);
-        self.table.shared.wake_all(SERVING);
+        let served = self.table.shared.fetch_add::<Release>(seat, SERVING, 1);
+        self.turns.ring(served.wrapping_add(1));
     }
 
     // Ends the turn, with the item of a call behind those that wait.
@@ -544,12 +573,16 @@ impl<T: Trust, K: Keeper> SharedSession<T, K> {
         ensures table { seat.new.table_id ≡ self.now.session }
         ensures put { HasPutOff (λ caller. item_of caller J.request made.now) seat.old.me seat.new.me }
     {
-        self.put_behind::<J>(seat, made);
-        self.table.shared.wake_all(SERVING);
+        let served = self.put_behind::<J>(seat, made);
+        self.turns.ring(served.wrapping_add(1));
     }
 
-    // Gives the session back, with the item of a call behind those that wait.
-    fn put_behind<J: Asking + Trusting>(&self, seat: &mut Place<K>, made: &Result<Reply, CallFault>)
+    // Gives the session back, with the item of a call behind those that wait, and tells which ticket was served.
+    fn put_behind<J: Asking + Trusting>(
+        &self,
+        seat: &mut Place<K>,
+        made: &Result<Reply, CallFault>,
+    ) -> u64
         requires table { seat.old.table_id ≡ self.now.session }
         requires first { self.now.faults ≡ J.first }
         requires may { MayPutOff (IsTrusted T.allows self.now.trust self.now.id) (KeepsHoped K.holds K.writes K.shut K.faults J.first) seat.old.me (λ caller. item_of caller J.request made.now) }
@@ -558,15 +591,9 @@ impl<T: Trust, K: Keeper> SharedSession<T, K> {
     {
         let shared = &self.table.shared;
         match made {
-            Ok(_) => {
-                shared.fetch_add::<PutOffDid<J>>(seat, SERVING, 1);
-            }
-            Err(CallFault::WantOfMemory) => {
-                shared.fetch_add::<PutOffVoid>(seat, SERVING, 1);
-            }
-            Err(CallFault::Unkept) => {
-                shared.fetch_add::<PutOffUnkept>(seat, SERVING, 1);
-            }
+            Ok(_) => shared.fetch_add::<PutOffDid<J>>(seat, SERVING, 1),
+            Err(CallFault::WantOfMemory) => shared.fetch_add::<PutOffVoid>(seat, SERVING, 1),
+            Err(CallFault::Unkept) => shared.fetch_add::<PutOffUnkept>(seat, SERVING, 1),
         }
     }
 
@@ -603,7 +630,7 @@ impl<T: Trust, K: Keeper> SharedSession<T, K> {
         unreachable!()
     }
 
-    // Waits until the ticket is served, and takes the session. Between two looks it sleeps until a call has ended.
+    // Waits until the ticket is served, and takes the session. Between two looks it sleeps until the turn before has ended.
     fn take_turn<J: Trusting, R: Wait>(&self, rt: &R, seat: &mut Place<K>, ticket: u64)
         requires table { seat.old.table_id ≡ self.now.session }
         requires trusted { (s : PlainSession) → IsTrusted T.allows self.now.trust self.now.id s → J.trusted s }
@@ -613,13 +640,12 @@ impl<T: Trust, K: Keeper> SharedSession<T, K> {
         ensures turn { HasTurn J.trusted (KeepsHoped K.holds K.writes K.shut K.faults J.first) seat.old.me ticket seat.new.me }
     {
         for _ in rt.forever() {
+            let rung = self.turns.rung(ticket);
             let found = self.table.shared.load::<Look<J>>(seat, SERVING);
             if found == ticket {
                 return;
             }
-            self.table
-                .shared
-                .park(rt, SERVING, (found & 0xffff_ffff) as u32);
+            self.turns.sleep(rt, ticket, rung);
         }
         unreachable!()
     }

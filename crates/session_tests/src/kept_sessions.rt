@@ -1,6 +1,7 @@
 //! Threads that share a session with a keeper: it settles once for calls that wait at once, and nobody is told what it
 //! did not keep.
-ghost use Rattle.std.specs.Prelude.{◌≡◌, false};
+ghost use Rattle.std.specs.Prelude.{◌≡◌, ◌≤◌, All, IfOk, false};
+ghost use Rattle.session_lock.specs.Numbers.{count_of};
 ghost use Rattle.session_lock.specs.Passes.{numbers_held};
 
 use crate::shared_sessions::events_of;
@@ -13,7 +14,7 @@ use std::sync::Wait;
 use std::test::Fail;
 use std::thread;
 use std::thread::{Threads, join};
-use tea_base::{Blob, SessionId};
+use tea_base::{Blob, SessionId, WantOfMemory};
 
 const ID: SessionId = SessionId([7; 32]);
 
@@ -22,6 +23,11 @@ const SENDS: u32 = 20;
 
 /// How many calls two views make, with their Joins.
 const CALLS: u32 = 2 * (SENDS + 1);
+
+/// How many threads call at once in the largest test, and how many events each of them sends: 10^5 in all.
+const CROWD: u32 = 64;
+
+const CROWD_SENDS: u32 = 1563;
 
 /// In one of so many rounds two views surely share a settling.
 const ROUNDS: u32 = 100;
@@ -122,13 +128,14 @@ type Shared = SharedSession<TrustAll, CountingKeeper>;
 
 type KeptPass = Pass<CountingKeeper>;
 
-/// The view joins and sends its events, numbered from 1.
+/// The view joins and sends so many events, numbered from 1.
 fn join_and_send<R: Wait>(
     rt: &R,
     alloc: Global,
     shared: &Shared,
     mut pass: KeptPass,
     view: u32,
+    sends: u32,
 ) -> (KeptPass, Told)
     requires { pass.session ≡ shared.now.session }
     ensures session { result.0.session ≡ shared.now.session }
@@ -149,7 +156,7 @@ fn join_and_send<R: Wait>(
         Ok(Reply::Joined { seq, .. }) => seq,
         _ => 0,
     };
-    for number in 1..=SENDS {
+    for number in 1..=sends {
         let request = Request::Send {
             view,
             joined,
@@ -183,12 +190,12 @@ fn two_join_and_send<R: Threads + Wait + Sync>(
             requires { first.session ≡ shared.now.session }
             ensures session { result.0.session ≡ shared.entry.now.session }
             ensures numbers { numbers_held result.0 ≡ numbers_held first }
-        { join_and_send(rt, alloc, shared, first, 1) },
+        { join_and_send(rt, alloc, shared, first, 1, SENDS) },
         || -> (KeptPass, Told)
             requires { second.session ≡ shared.now.session }
             ensures session { result.0.session ≡ shared.entry.now.session }
             ensures numbers { numbers_held result.0 ≡ numbers_held second }
-        { join_and_send(rt, alloc, shared, second, 2) },
+        { join_and_send(rt, alloc, shared, second, 2, SENDS) },
     )
 }
 
@@ -286,5 +293,71 @@ fn what_was_not_settled_is_told_to_nobody(rt: HostRuntime) -> Result<(), Fail> {
         let left = serve_two(&rt, rt.alloc(), most)?;
         look_at_failed(&rt, &left)?;
     }
+    Ok(())
+}
+
+/// So many passes of a session, each for a view of its own.
+fn passes_of(
+    alloc: Global,
+    shared: &Shared,
+    lead: &mut KeptPass,
+    count: u32,
+) -> Result<Vec<KeptPass>, WantOfMemory>
+    requires session { lead.old.session ≡ shared.now.session }
+    requires enough { count ≤ count_of lead.old.spare }
+    ensures lead { lead.new.session ≡ shared.now.session }
+    ensures passes { IfOk result (λ passes. All (λ pass. pass.session ≡ shared.now.session) passes.items) }
+{
+    let mut passes = Vec::new(alloc);
+    for _made in 0..count {
+        passes.push(shared.split(lead, 0)?)?;
+    }
+    Ok(passes)
+}
+
+/// A view for each pass joins and sends, in a thread beside the others. They are numbered down from this one. Tells how many calls were answered.
+fn crowd_sends<R: Threads + Wait + Sync>(
+    rt: &R,
+    alloc: Global,
+    shared: &Shared,
+    mut passes: Vec<KeptPass>,
+    view: u32,
+) -> u32
+    requires { All (λ pass. pass.session ≡ shared.now.session) passes.items }
+{
+    let Some(pass) = passes.pop() else {
+        return 0;
+    };
+    let (told, others) = join(
+        rt,
+        || -> Told
+            requires { pass.session ≡ shared.now.session }
+        { join_and_send(rt, alloc, shared, pass, view, CROWD_SENDS).1 },
+        || -> u32
+            requires { All (λ pass. pass.session ≡ shared.now.session) passes.items }
+        { crowd_sends(rt, alloc, shared, passes, view.saturating_sub(1)) },
+    );
+    others.saturating_add(told.answered)
+}
+
+#[test]
+fn nobody_in_a_crowd_is_left_asleep(rt: HostRuntime) -> Result<(), Fail> {
+    let alloc = rt.alloc();
+    let session = Session::new(alloc);
+    // tells that the session is sound, so that it covers itself
+    let _horizon = session.horizon();
+    let keeper = CountingKeeper::new(u32::MAX);
+    let (shared, mut lead) = SharedSession::with_keeper(alloc, ID, session, keeper, TrustAll)
+        .ok()
+        .ok_or("memory")?;
+    let passes = passes_of(alloc, &shared, &mut lead, CROWD)?;
+    assert_eq!(rt;
+        crowd_sends(&rt, alloc, &shared, passes, CROWD),
+        CROWD * (CROWD_SENDS + 1)
+    );
+    assert_eq!(rt;
+        shared.calls_done(&mut lead),
+        (CROWD * (CROWD_SENDS + 1)) as u64
+    );
     Ok(())
 }

@@ -117,9 +117,10 @@ fn session_of_two<R: Threads + Wait + Abort + Sync>(
     rt: &R,
     alloc: Global,
 ) -> Result<Session, Fail> {
-    let (shared, mut first) = SharedSession::new(alloc, ID, Session::new(alloc), TrustAll)
-        .ok()
-        .ok_or("memory")?;
+    let Ok((shared, mut first)) = SharedSession::new(alloc, ID, Session::new(alloc), TrustAll)
+    else {
+        return Err("memory")?;
+    };
     let second = shared.split(&mut first, 0)?;
     let mut third = shared.split(&mut first, 0)?;
     let (mut first, second) = two_join_and_send(rt, alloc, &shared, first, second);
@@ -191,9 +192,10 @@ fn a_snapshot_is_kept_for_those_who_join(rt: HostRuntime) -> Result<(), Fail> {
 
 /// The session of view 7, by two passes.
 fn session_with_snapshot<R: Wait + Abort>(rt: &R, alloc: Global) -> Result<Session, Fail> {
-    let (shared, mut first) = SharedSession::new(alloc, ID, Session::new(alloc), TrustFounding)
-        .ok()
-        .ok_or("memory")?;
+    let Ok((shared, mut first)) = SharedSession::new(alloc, ID, Session::new(alloc), TrustFounding)
+    else {
+        return Err("memory")?;
+    };
     let mut second = shared.split(&mut first, 0)?;
     offer_and_join(rt, alloc, &shared, &mut first, &mut second)?;
     shared.merge(&mut first, second);

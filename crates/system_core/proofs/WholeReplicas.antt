@@ -3,6 +3,7 @@ use Rattle.std.proofs.Common.{ℕ, ◌+◌, ◌≡◌, Bool, true, false, cond, 
 use Rattle.wire_frames.specs.declared.start.Base.{Base}
 use Rattle.wire_frames.specs.declared.frame.ServerFrame.{ServerFrame}
 use Rattle.wire_frames.specs.declared.frame.ServerFrame.TheVariants.{Sync, Recv, Tick, Done, Snapped, Refused, Alive}
+use Rattle.wire_frames.specs.declared.tags.TheConstants.{JOIN_TAG, SNAP_TAG}
 use Rattle.replica_plain.specs.declared.how.How.{How}
 use Rattle.replica_plain.specs.declared.how.How.TheVariants.{Fresh, Whole, Resume}
 use Rattle.replica_plain.specs.Worlds.{Worlds}
@@ -44,5 +45,5 @@ taken_whole m r (Recv entry) whole =
 taken_whole m r (Tick t) whole = whole_if r.synced _ _ (whole_if r.broken _ _ whole (whole_if (nat_lt t (m.time r.world)) _ _ whole whole)) whole
 taken_whole m r (Done number seq time) whole = whole_if r.synced _ _ (done_whole r r.outbox number whole) whole
 taken_whole m r (Snapped time) whole = whole_if r.synced _ _ whole whole
-taken_whole m r (Refused about code kept more) whole = whole_if (eqb about 3) _ _ whole (whole_if (eqb about 1) _ _ whole whole)
+taken_whole m r (Refused about code kept more) whole = whole_if (eqb about SNAP_TAG) _ _ whole (whole_if (eqb about JOIN_TAG) _ _ whole whole)
 taken_whole m r Alive whole = whole

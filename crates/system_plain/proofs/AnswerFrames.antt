@@ -2,6 +2,7 @@
 use Rattle.std.proofs.Common.{ℕ, ◌≡◌, List, [], ◌∷◌, refl, sym, subst}
 use Rattle.wire_frames.specs.declared.frame.ServerFrame.{ServerFrame}
 use Rattle.wire_frames.specs.declared.frame.ServerFrame.TheVariants.{Refused, Snapped}
+use Rattle.wire_frames.specs.declared.tags.TheConstants.{SNAP_TAG, LEAVE_TAG}
 use Rattle.reflector_core.specs.declared.request.Refusal.{Refusal}
 use Rattle.reflector_core.specs.declared.request.Refusal.TheVariants as refusal
 use Rattle.reflector_core.specs.declared.request.Reply.{Reply}
@@ -31,7 +32,7 @@ of_refusal P refused about why =
 pub of_snap_answer
     : (P : List ServerFrame → Type 0) → P [] → ((time : ℕ) → P (Snapped time ∷ [])) → ((about code kept more : ℕ) → P (Refused about code kept more ∷ []))
     → (time : ℕ) (answered : Reply) → P (answer_frames (snap_answer time answered))
-of_snap_answer P none snapped refused time (reply.Refused why) = of_refusal P refused 3 why
+of_snap_answer P none snapped refused time (reply.Refused why) = of_refusal P refused SNAP_TAG why
 of_snap_answer P none snapped refused time reply.Kept = snapped time
 of_snap_answer P none snapped refused time (reply.Stamped seq at) = none
 of_snap_answer P none snapped refused time (reply.Again seq at) = none
@@ -41,7 +42,7 @@ of_snap_answer P none snapped refused time (reply.Ticked at) = none
 of_snap_answer P none snapped refused time (reply.Batch entries tick) = none
 
 pub of_leave_answer : (P : List ServerFrame → Type 0) → P [] → ((about code kept more : ℕ) → P (Refused about code kept more ∷ [])) → (answered : Reply) → P (answer_frames (leave_answer answered))
-of_leave_answer P none refused (reply.Refused why) = of_refusal P refused 4 why
+of_leave_answer P none refused (reply.Refused why) = of_refusal P refused LEAVE_TAG why
 of_leave_answer P none refused reply.Kept = none
 of_leave_answer P none refused (reply.Stamped seq time) = none
 of_leave_answer P none refused (reply.Again seq time) = none

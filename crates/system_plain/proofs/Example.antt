@@ -4,6 +4,9 @@ use Rattle.tea_base.specs.declared.entry.What.TheVariants as what
 use Rattle.wire_frames.specs.declared.frame.ClientFrame.TheVariants.{Join, Send}
 use Rattle.wire_frames.specs.declared.frame.ServerFrame.TheVariants.{Done, Recv, Refused, Sync, Tick}
 use Rattle.wire_frames.specs.declared.start.Want.TheVariants as want
+use Rattle.wire_frames.specs.declared.tags.TheConstants.{JOIN_TAG}
+use Rattle.wire_frames.specs.declared.code.RefusalCode.TheVariants as code
+use Rattle.wire_frames.specs.Codes.{code_number}
 use Rattle.reflector_core.specs.declared.request.Reply.TheVariants as reply
 use Rattle.reflector_core.specs.Play.{first_session}
 use Rattle.replica_plain.specs.declared.fault.ReplicaFault.{ReplicaFault}
@@ -11,7 +14,7 @@ use Rattle.replica_plain.specs.declared.fault.ReplicaFault.TheVariants as cause
 use Rattle.replica_plain.specs.declared.how.How.TheVariants.{Resume, Whole}
 use Rattle.replica_plain.specs.Worlds.{AreWorlds, Worlds}
 use Rattle.replica_plain.proofs.CountedWorlds.{Counter, counters_are_worlds, counters_from}
-use Rattle.system_plain.specs.ConnectionLine.{Hears, Pumps, after_turns, first_line}
+use Rattle.system_plain.specs.ConnectionLine.{Hears, Pumps, after_turns, first_line, unread_frame}
 use Rattle.system_plain.specs.Schedule.{AreTypedSteps, IsSchedule, after_schedule, faults_from, faults_in, published_in, replies_in}
 use Rattle.system_plain.specs.Steps.{Cut, Found, Publish, Pump, Receive, Reconnect, Restart, Snap, SystemStep, Take, Transmit}
 use Rattle.system_plain.specs.System.{first_system, view_client}
@@ -153,12 +156,12 @@ its_base_is_bad = refl
 
 the_line : (after_turns (record { 0 = [] }) (first_line first_session)
     (Hears (Some (Join (record { 0 = [] }) 7 want.Whole)) 0 ∷ Hears (Some (Send 1 (5 ∷ []))) 0 ∷ Hears None 0 ∷ Pumps 0 ∷ Hears (Some (Send 1 (5 ∷ []))) 9 ∷ Pumps 0 ∷ [])).sent
-    ≡ Sync 1 0 0 None ∷ Done 1 2 2 ∷ Refused 0 13 0 0
+    ≡ Sync 1 0 0 None ∷ Done 1 2 2 ∷ unread_frame
     ∷ Recv (record { seq = 1; time = 1; view = 7; what = what.Join }) ∷ Recv (record { seq = 2; time = 2; view = 7; what = what.Event 1 (5 ∷ []) }) ∷ Tick 2
     ∷ Done 1 2 2 ∷ []
 the_line = refl
 
 -- a line that does not begin with a JOIN of its session is over at once
 another_session : (after_turns (record { 0 = [] }) (first_line first_session) (Hears (Some (Join (record { 0 = 1 ∷ [] }) 7 want.Whole)) 0 ∷ Hears (Some (Join (record { 0 = [] }) 7 want.Whole)) 0 ∷ Pumps 0 ∷ [])).sent
-    ≡ Refused 1 12 0 0 ∷ []
+    ≡ Refused JOIN_TAG (code_number code.OtherSession) 0 0 ∷ []
 another_session = refl

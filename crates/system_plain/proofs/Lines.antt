@@ -19,6 +19,8 @@ use Rattle.wire_frames.specs.declared.frame.ServerFrame.{ServerFrame}
 use Rattle.wire_frames.specs.declared.frame.ServerFrame.TheVariants.{Alive, Done, Recv, Refused, Snapped, Sync, Tick}
 use Rattle.wire_frames.specs.declared.start.Base.{Base}
 use Rattle.wire_frames.specs.declared.start.Want.{Want}
+use Rattle.wire_frames.specs.declared.tags.TheConstants.{JOIN_TAG, SEND_TAG, SNAP_TAG, LEAVE_TAG}
+use Rattle.wire_frames.specs.Codes.{code_number}
 use Rattle.wire_frames.specs.Served.{AnswersFrame, AnswersInOrder, AnswersJoin, IsEventAt, Place, Served, answers_of}
 use Rattle.wire_frames.specs.Spelling.{client_tag}
 use Rattle.reflector_core.specs.declared.request.Refusal.{Refusal}
@@ -34,7 +36,7 @@ use Rattle.join_sync.specs.declared.early.Early.{Early}
 use Rattle.join_sync.specs.declared.early.Early.TheVariants.{NotJoined, OtherSession}
 use Rattle.join_sync.specs.Answers.{answer_frame, first_cursor, join_answer}
 use Rattle.join_sync.specs.Batches.{entry_frames, most_pulled, newer_tick, next_cursor, next_frames, tick_frames}
-use Rattle.join_sync.specs.Refusals.{early_code, early_frame, refused_frame}
+use Rattle.join_sync.specs.Refusals.{early_code, early_frame, refused_frame, second_join_frame}
 use Rattle.join_sync.specs.Requests.{act_on, first_request}
 use Rattle.join_sync.specs.Standing.{StandsAt as CursorStands}
 use Rattle.join_sync.proofs.Openings.{joined_stands}
@@ -271,12 +273,12 @@ again_if : (s : PlainSession) (view joined number now : ℕ) (payload : List ℕ
 again_if s view joined number now payload entry true legal positive found is =
     (Done number entry.seq entry.time, refl, tt, refl, (refl, event_is_at s.log view number payload entry legal positive found ((bytes_eq-Decides (event_payload entry.what) payload).0 is)))
 again_if s view joined number now payload entry false legal positive found is =
-    answered_refusal s view 2 (up.Send number payload) (request.Send view joined number payload now) (refusal.Differs entry.seq) refl (λ code kept more. refl)
+    answered_refusal s view SEND_TAG (up.Send number payload) (request.Send view joined number payload now) (refusal.Differs entry.seq) refl (λ code kept more. refl)
 
 repeats_answered : (s : PlainSession) (view joined number now next : ℕ) (payload : List ℕ) (found : Option Entry) → IsLegal s.log → 0 < number → view_event s.log view number ≡ found
     → AnsweredBy view (up.Send number payload) (request.Send view joined number payload now) (record { session = s; reply = repeats s payload found (reply.Refused (refusal.Gap next)) })
 repeats_answered s view joined number now next payload None legal positive is =
-    answered_refusal s view 2 (up.Send number payload) (request.Send view joined number payload now) (refusal.Gap next) refl (λ code kept more. refl)
+    answered_refusal s view SEND_TAG (up.Send number payload) (request.Send view joined number payload now) (refusal.Gap next) refl (λ code kept more. refl)
 repeats_answered s view joined number now next payload (Some entry) legal positive is = again_if s view joined number now payload entry (bytes_eq (event_payload entry.what) payload) legal positive is refl
 
 -- ---- each request of a frame is answered
@@ -286,7 +288,7 @@ send_answered s view joined number payload now legal =
     let frame = up.Send number payload in
     let asked = request.Send view joined number payload now in
     let next = last_number s.log view + 1 in
-    let no : (why : Refusal) → AnsweredBy view frame asked (record { session = s; reply = reply.Refused why }) = λ why. answered_refusal s view 2 frame asked why refl (λ code kept more. refl) in
+    let no : (why : Refusal) → AnsweredBy view frame asked (record { session = s; reply = reply.Refused why }) = λ why. answered_refusal s view SEND_TAG frame asked why refl (λ code kept more. refl) in
     answered_if view frame asked (is_stale s.log view joined) _ _ (λ h. no (refusal.Stale (current s.log view))) λ fresh.
     answered_if view frame asked (nat_lt most_payload (length payload)) _ _ (λ h. no (refusal.TooLong (reply_length (length payload)))) λ short.
     answered_if view frame asked (eqb number 0) _ _ (λ h. no (refusal.Gap next)) λ named.
@@ -300,7 +302,7 @@ offer_answered : (s : PlainSession) (view joined time : ℕ) (snapshot : List �
 offer_answered s view joined time snapshot =
     let frame = up.Snap time snapshot in
     let asked = request.Offer view joined time snapshot in
-    let no : (why : Refusal) → AnsweredBy view frame asked (record { session = s; reply = reply.Refused why }) = λ why. answered_refusal s view 3 frame asked why refl (λ code kept more. refl) in
+    let no : (why : Refusal) → AnsweredBy view frame asked (record { session = s; reply = reply.Refused why }) = λ why. answered_refusal s view SNAP_TAG frame asked why refl (λ code kept more. refl) in
     answered_if view frame asked (is_stale s.log view joined) _ _ (λ h. no (refusal.Stale (current s.log view))) λ a.
     answered_if view frame asked (nat_lt most_snapshot (length snapshot)) _ _ (λ h. no (refusal.TooLong (reply_length (length snapshot)))) λ b.
     answered_if view frame asked (nat_lt s.horizon time) _ _ (λ h. no (refusal.Ahead s.horizon)) λ c.
@@ -317,7 +319,7 @@ left_if view asked false a b held fell = fell
 leave_answered : (s : PlainSession) (view joined now : ℕ) → LeaveAnswered view (request.Leave view joined now) (leave s view joined now)
 leave_answered s view joined now =
     left_if view (request.Leave view joined now) (is_stale s.log view joined) _ _
-    (inl (answered_refusal s view 4 up.Leave (request.Leave view joined now) (refusal.Stale (current s.log view)) refl (λ code kept more. refl))) (inr (refl, refl))
+    (inl (answered_refusal s view LEAVE_TAG up.Leave (request.Leave view joined now) (refusal.Stale (current s.log view)) refl (λ code kept more. refl))) (inr (refl, refl))
 
 -- ---- frames that are heard
 
@@ -358,7 +360,7 @@ acted_stands line cursor (up.Snap time snapshot) now old sound sends = record {
   stands = called_sends line.session cursor (up.Snap time snapshot) (request.Offer cursor.view cursor.joined time snapshot) line.given line.sent sound (offer_answered line.session cursor.view cursor.joined time snapshot) sends;
 }
 acted_stands line cursor up.Leave now old sound sends = record { sound = sound; stands = left_sends line.session cursor now line.given line.sent sound sends }
-acted_stands line cursor (up.Join session view want) now old sound sends = record { sound = sound; stands = sends_answer line.session cursor false line.given line.sent (Some (up.Join session view want)) (Refused 1 15 0 0) tt refl (refl, refl) sends }
+acted_stands line cursor (up.Join session view want) now old sound sends = record { sound = sound; stands = sends_answer line.session cursor false line.given line.sent (Some (up.Join session view want)) second_join_frame tt refl (refl, refl) sends }
 acted_stands line cursor up.Alive now old sound sends = record { sound = sound; stands = sends_answer line.session cursor false line.given line.sent (Some up.Alive) Alive tt refl tt sends }
 
 -- what a Join that is answered Joined says of the log after it
@@ -418,7 +420,7 @@ opened_stands s new session view now want answered given sent none_given none_se
   | inl no_join ↦
       let form = refused_form 1 no_join.0 in
       subst (λ (r : Reply). Opened new session view want r given sent) (sym no_join.1)
-      (1, form.0, form.1, form.2, ap (λ (l : List ServerFrame). l ++ refused_frame 1 no_join.0 ∷ []) none_sent ∙ ap (λ (f : ServerFrame). f ∷ []) form.3)
+      (JOIN_TAG, form.0, form.1, form.2, ap (λ (l : List ServerFrame). l ++ refused_frame JOIN_TAG no_join.0 ∷ []) none_sent ∙ ap (λ (f : ServerFrame). f ∷ []) form.3)
   | inr with ↦
       let horizon = with.horizon in
       let long = with.long in
@@ -452,7 +454,7 @@ opened_stands s new session view now want answered given sent none_given none_se
 
 -- a first frame that is refused before the session is asked
 early_stands : (line : ConnectionLine) (frame : ClientFrame) (early : Early) → IsSoundSession line.session → line.sent ≡ [] → LineStands (hears_first line frame (Err early))
-early_stands line frame early sound nothing = record { sound = sound; stands = (client_tag frame, early_code early, 0, 0, ap (λ (l : List ServerFrame). l ++ early_frame early frame ∷ []) nothing) }
+early_stands line frame early sound nothing = record { sound = sound; stands = (client_tag frame, code_number (early_code early), 0, 0, ap (λ (l : List ServerFrame). l ++ early_frame early frame ∷ []) nothing) }
 
 join_stands_if : (line : ConnectionLine) (session : SessionId) (view : ℕ) (want : Want) (now : ℕ) (own : Bool) → IsSoundSession line.session → IsSoundSession (hears_first line (up.Join session view want) (cond own (Ok (request.Join view now want)) (Err OtherSession))).session → (line.given ≡ []) × (line.sent ≡ [])
     → LineStands (hears_first line (up.Join session view want) (cond own (Ok (request.Join view now want)) (Err OtherSession)))

@@ -10,6 +10,7 @@ use Rattle.wire_frames.specs.declared.frame.ClientFrame.{ClientFrame}
 use Rattle.wire_frames.specs.declared.frame.ClientFrame.TheVariants as up
 use Rattle.wire_frames.specs.declared.frame.ServerFrame.{ServerFrame}
 use Rattle.wire_frames.specs.declared.frame.ServerFrame.TheVariants.{Alive, Done, Recv, Refused, Snapped, Sync, Tick}
+use Rattle.wire_frames.specs.declared.tags.TheConstants.{SEND_TAG}
 use Rattle.reflector_core.specs.declared.request.Refusal.{Refusal}
 use Rattle.reflector_core.specs.declared.request.Reply.{Reply}
 use Rattle.reflector_core.specs.declared.request.Reply.TheVariants as reply
@@ -177,7 +178,7 @@ pub dones_of_answer : (bound view joined number : ℕ) (payload : List ℕ) (now
 dones_of_answer bound view joined number payload now (reply.Stamped seq time) may = elim may [ inl none ↦ absurd none | inr within ↦ (within, tt) ]
 dones_of_answer bound view joined number payload now (reply.Again seq time) may = elim may [ inl none ↦ absurd none | inr within ↦ (within, tt) ]
 dones_of_answer bound view joined number payload now reply.Kept may = tt
-dones_of_answer bound view joined number payload now (reply.Refused why) may = dones_of_refusal bound 2 why
+dones_of_answer bound view joined number payload now (reply.Refused why) may = dones_of_refusal bound SEND_TAG why
 dones_of_answer bound view joined number payload now (reply.Left seq time) may = tt
 dones_of_answer bound view joined number payload now (reply.Joined seq time last from base) may = tt
 dones_of_answer bound view joined number payload now (reply.Ticked time) may = tt

@@ -9,6 +9,7 @@ use Rattle.wire_frames.specs.declared.frame.ClientFrame.TheVariants as up
 use Rattle.wire_frames.specs.declared.frame.ServerFrame.{ServerFrame}
 use Rattle.wire_frames.specs.declared.frame.ServerFrame.TheVariants.{Alive, Recv, Refused}
 use Rattle.wire_frames.specs.declared.start.Want.{Want}
+use Rattle.wire_frames.specs.declared.tags.TheConstants.{JOIN_TAG}
 use Rattle.reflector_core.specs.declared.request.Reply.{Reply}
 use Rattle.reflector_core.specs.declared.request.Reply.TheVariants as reply
 use Rattle.reflector_core.specs.declared.request.Request.TheVariants as request
@@ -20,7 +21,7 @@ use Rattle.join_sync.specs.declared.early.Early.{Early}
 use Rattle.join_sync.specs.declared.early.Early.TheVariants.{NotJoined, OtherSession}
 use Rattle.join_sync.specs.Answers.{answer_frame, first_cursor, join_answer}
 use Rattle.join_sync.specs.Batches.{newer_tick, next_cursor, next_frames, tick_frames}
-use Rattle.join_sync.specs.Refusals.{early_frame}
+use Rattle.join_sync.specs.Refusals.{early_frame, second_join_frame}
 use Rattle.join_sync.specs.Requests.{act_on, first_request}
 use Rattle.system_plain.specs.Schedule.{ViewPayloads}
 use Rattle.system_plain.specs.Steps.{answer_frames, ends_connection, leave_on, pump_batch, pump_on, pump_with, take_act, take_first, take_frame, take_next, take_on}
@@ -98,13 +99,13 @@ act_keeps_numbers published s number c cursor up.Leave rest now numbered at is n
     let o = answer s.session asked in
     subst (λ (x : Connection). NumbersStand published (record { session = o.session; clients = s.clients; connections = set s.connections number (over_if (ends_connection o.reply) (put_down x (answer_frames (answer_frame asked o.reply)))) })) (same_cursor c rest (Some cursor) is)
     (put_keeps published s o.session number c rest (Some cursor) (answer_frames (answer_frame asked o.reply)) (ends_connection o.reply) numbered at (same_counts published s.session o.session (leave_same s.session cursor.view cursor.joined now) numbered.prefixes) sends joins named (dones_of_leave _ o.reply))
-act_keeps_numbers published s number c cursor (up.Join session view want) rest now numbered at is named sends joins = at_once_keeps_numbers published s number c cursor (Refused 1 15 0 0) rest numbered at is named sends joins.1 (λ bound. tt)
+act_keeps_numbers published s number c cursor (up.Join session view want) rest now numbered at is named sends joins = at_once_keeps_numbers published s number c cursor second_join_frame rest numbered at is named sends joins.1 (λ bound. tt)
 act_keeps_numbers published s number c cursor up.Alive rest now numbered at is named sends joins = at_once_keeps_numbers published s number c cursor Alive rest numbered at is named sends joins (λ bound. tt)
 
 -- the first frame
 dones_of_join : (bound : ℕ) (answered : Reply) → DonesWithin bound (answer_frames (join_answer answered))
 dones_of_join bound (reply.Joined seq time last from base) = tt
-dones_of_join bound (reply.Refused why) = dones_of_refusal bound 1 why
+dones_of_join bound (reply.Refused why) = dones_of_refusal bound JOIN_TAG why
 dones_of_join bound (reply.Stamped seq time) = tt
 dones_of_join bound (reply.Again seq time) = tt
 dones_of_join bound (reply.Ticked time) = tt

@@ -7,6 +7,7 @@ use Rattle.wire_frames.specs.declared.frame.ClientFrame.{ClientFrame}
 use Rattle.wire_frames.specs.declared.frame.ClientFrame.TheVariants as up
 use Rattle.wire_frames.specs.declared.frame.ServerFrame.{ServerFrame}
 use Rattle.wire_frames.specs.declared.frame.ServerFrame.TheVariants.{Alive, Done, Recv, Refused, Snapped, Sync, Tick}
+use Rattle.wire_frames.specs.declared.tags.TheConstants.{JOIN_TAG, SNAP_TAG}
 use Rattle.reflector_core.specs.Answer.{joins}
 use Rattle.reflector_core.specs.PlainSession.{PlainSession}
 use Rattle.replica_plain.specs.declared.how.How.{How}
@@ -254,7 +255,7 @@ taken_box m published s r (Tick t) rest dones box =
     box_if published s r.synced _ _ (λ h. box_if published s r.broken _ _ (λ h. box) (box_if published s (nat_lt t (m.time r.world)) _ _ (λ h. box) (same_box published s r _ refl refl refl box.given box))) box
 taken_box m published s r (Done number seq time) rest dones box = box_if published s r.synced _ _ (λ h. done_box published s r r.outbox number refl dones.0 box) box
 taken_box m published s r (Snapped time) rest dones box = box_if published s r.synced _ _ (λ h. box) box
-taken_box m published s r (Refused about code kept more) rest dones box = box_if published s (eqb about 3) _ _ (λ h. box) (box_if published s (eqb about 1) _ _ (λ h. same_box published s r _ refl refl refl box.given box) box)
+taken_box m published s r (Refused about code kept more) rest dones box = box_if published s (eqb about SNAP_TAG) _ _ (λ h. box) (box_if published s (eqb about JOIN_TAG) _ _ (λ h. same_box published s r _ refl refl refl box.given box) box)
 taken_box m published s r Alive rest dones box = box
 
 receive_next_keeps_numbers : {W O : Type 0} (m : Worlds W O) (published : ViewPayloads) (s : System W O) (view : ℕ) (client : Client W O) (c : Connection) (down : List ServerFrame) → WorldsStand m s → NumbersStand published s → view_client s.clients view ≡ Some client → slice_get s.connections client.newest ≡ Some c → c.down ≡ down → NumbersStand published (receive_next m s client c down)

@@ -14,6 +14,7 @@ use Rattle.wire_frames.specs.declared.frame.ServerFrame.TheVariants.{Alive, Done
 use Rattle.wire_frames.specs.declared.start.Base.{Base}
 use Rattle.wire_frames.specs.declared.start.Want.{Want}
 use Rattle.wire_frames.specs.declared.start.Want.TheVariants as want
+use Rattle.wire_frames.specs.declared.tags.TheConstants.{JOIN_TAG}
 use Rattle.wire_frames.specs.Served.{BeginsFor, Place}
 use Rattle.reflector_core.specs.declared.request.Refusal.{Refusal}
 use Rattle.reflector_core.specs.declared.request.Refusal.TheVariants as refusal
@@ -107,10 +108,10 @@ opened_connection c rest view answered =
     let cursor = first_cursor view answered in
     over_if (is_none cursor) (put_down (with_cursor (with_up c rest) cursor) (answer_frames (join_answer answered)))
 
-refused_waits : {W O : Type 0} (m : Worlds W O) (s : PlainSession) (r : PlainReplica W O) (why : Refusal) → WaitsForSync m s r false true None (refused_frame 1 why ∷ [])
-refused_waits m s r why = of_refusal (WaitsForSync m s r false true None) (λ about code kept more. (refl, refl)) 1 why
+refused_waits : {W O : Type 0} (m : Worlds W O) (s : PlainSession) (r : PlainReplica W O) (why : Refusal) → WaitsForSync m s r false true None (refused_frame JOIN_TAG why ∷ [])
+refused_waits m s r why = of_refusal (WaitsForSync m s r false true None) (λ about code kept more. (refl, refl)) JOIN_TAG why
 
-refused_waits_if : {W O : Type 0} (m : Worlds W O) (s : PlainSession) (r : PlainReplica W O) (closed over : Bool) (why : Refusal) → WaitsForSync m s r closed (over || true) None (cond closed [] (refused_frame 1 why ∷ []))
+refused_waits_if : {W O : Type 0} (m : Worlds W O) (s : PlainSession) (r : PlainReplica W O) (closed over : Bool) (why : Refusal) → WaitsForSync m s r closed (over || true) None (cond closed [] (refused_frame JOIN_TAG why ∷ []))
 refused_waits_if m s r true over why = λ ready going. absurd cc
 refused_waits_if m s r false true why = refused_waits m s r why
 refused_waits_if m s r false false why = refused_waits m s r why
@@ -123,7 +124,7 @@ opened_refused : {W O : Type 0} (m : Worlds W O) (s : PlainSession) (r : PlainRe
 opened_refused m s r c rest view why owned nothing waiting = record {
   owned = owned;
   opens = λ fresh going. absurd (let h = or_true c.over in cc);
-  waits = λ h. subst (λ (down : List ServerFrame). WaitsForSync m s r c.closed (c.over || true) None (cond c.closed down (down ++ refused_frame 1 why ∷ []))) (sym nothing) (refused_waits_if m s r c.closed c.over why);
+  waits = λ h. subst (λ (down : List ServerFrame). WaitsForSync m s r c.closed (c.over || true) None (cond c.closed down (down ++ refused_frame JOIN_TAG why ∷ []))) (sym nothing) (refused_waits_if m s r c.closed c.over why);
   begun = λ synced. absurd cc;
 }
 

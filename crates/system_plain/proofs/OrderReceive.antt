@@ -6,6 +6,7 @@ use Rattle.wire_frames.specs.declared.frame.ClientFrame.{ClientFrame}
 use Rattle.wire_frames.specs.declared.frame.ServerFrame.{ServerFrame}
 use Rattle.wire_frames.specs.declared.frame.ServerFrame.TheVariants.{Alive, Done, Recv, Refused, Snapped, Sync, Tick}
 use Rattle.wire_frames.specs.declared.start.Base.{Base}
+use Rattle.wire_frames.specs.declared.tags.TheConstants.{JOIN_TAG, SNAP_TAG}
 use Rattle.reflector_core.specs.PlainSession.{PlainSession}
 use Rattle.replica_plain.specs.PlainReplica.{PlainReplica}
 use Rattle.replica_plain.specs.Taking.{Taken, acknowledges, taken}
@@ -128,7 +129,7 @@ taken_runs m published s r c (Snapped time) rest down joined box prefixes within
 taken_runs m published s r c (Refused about code kept more) rest down joined box prefixes within runs =
     let passes : DropsNoDone (Refused about code kept more ∷ rest) rest = record { rise = λ k h. h; end = λ k. refl; none = λ h. h } in
     let same = runs_pass s.log r r c (Refused about code kept more ∷ rest) rest (record { synced = refl; view = refl; acknowledged = refl; given = refl; outbox = refl }) passes runs in
-    runs_if s.log (with_down c rest) (eqb about 3) _ _ (λ h. same) (λ a. runs_if s.log (with_down c rest) (eqb about 1) _ _
+    runs_if s.log (with_down c rest) (eqb about SNAP_TAG) _ _ (λ h. same) (λ a. runs_if s.log (with_down c rest) (eqb about JOIN_TAG) _ _
     (λ h. runs_pass s.log r _ c (Refused about code kept more ∷ rest) rest (record { synced = refl; view = refl; acknowledged = refl; given = refl; outbox = refl }) passes runs) (λ h. same))
 taken_runs m published s r c Alive rest down joined box prefixes within runs =
     runs_pass s.log r r c (Alive ∷ rest) rest (record { synced = refl; view = refl; acknowledged = refl; given = refl; outbox = refl }) (record { rise = λ k h. h; end = λ k. refl; none = λ h. h }) runs

@@ -7,6 +7,7 @@ use Rattle.wire_frames.specs.declared.frame.ClientFrame.{ClientFrame}
 use Rattle.wire_frames.specs.declared.frame.ClientFrame.TheVariants as up
 use Rattle.wire_frames.specs.declared.frame.ServerFrame.{ServerFrame}
 use Rattle.wire_frames.specs.declared.frame.ServerFrame.TheVariants.{Alive, Done, Recv, Refused, Snapped, Sync, Tick}
+use Rattle.wire_frames.specs.declared.tags.TheConstants.{SEND_TAG}
 use Rattle.reflector_core.specs.declared.request.Reply.{Reply}
 use Rattle.reflector_core.specs.declared.request.Reply.TheVariants as reply
 use Rattle.reflector_core.specs.declared.request.Request.TheVariants as request
@@ -169,7 +170,7 @@ no_done_frames : (view joined number : ℕ) (payload : List ℕ) (now : ℕ) (an
 no_done_frames view joined number payload now (reply.Stamped seq time) none = absurd none
 no_done_frames view joined number payload now (reply.Again seq time) none = absurd none
 no_done_frames view joined number payload now reply.Kept none = tt
-no_done_frames view joined number payload now (reply.Refused why) none = of_refusal NoDones (λ about code kept more. tt) 2 why
+no_done_frames view joined number payload now (reply.Refused why) none = of_refusal NoDones (λ about code kept more. tt) SEND_TAG why
 no_done_frames view joined number payload now (reply.Left seq time) none = tt
 no_done_frames view joined number payload now (reply.Joined seq time last from base) none = tt
 no_done_frames view joined number payload now (reply.Ticked time) none = tt

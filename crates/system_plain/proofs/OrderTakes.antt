@@ -12,6 +12,7 @@ use Rattle.wire_frames.specs.declared.frame.ClientFrame.TheVariants as up
 use Rattle.wire_frames.specs.declared.frame.ServerFrame.{ServerFrame}
 use Rattle.wire_frames.specs.declared.frame.ServerFrame.TheVariants.{Alive, Done, Recv, Refused, Snapped, Sync, Tick}
 use Rattle.wire_frames.specs.declared.start.Want.{Want}
+use Rattle.wire_frames.specs.declared.tags.TheConstants.{JOIN_TAG}
 use Rattle.reflector_core.specs.declared.request.Refusal.{Refusal}
 use Rattle.reflector_core.specs.declared.request.Reply.{Reply}
 use Rattle.reflector_core.specs.declared.request.Reply.TheVariants as reply
@@ -25,7 +26,7 @@ use Rattle.join_sync.specs.declared.early.Early.{Early}
 use Rattle.join_sync.specs.declared.early.Early.TheVariants.{NotJoined, OtherSession}
 use Rattle.join_sync.specs.Answers.{answer_frame, first_cursor, join_answer, leave_answer, snap_answer}
 use Rattle.join_sync.specs.Batches.{newer_tick, next_cursor, next_frames, tick_frames}
-use Rattle.join_sync.specs.Refusals.{early_frame, refused_frame}
+use Rattle.join_sync.specs.Refusals.{early_frame, refused_frame, second_join_frame}
 use Rattle.join_sync.specs.Requests.{act_on, first_request}
 use Rattle.system_plain.specs.Schedule.{ViewPayloads}
 use Rattle.system_plain.specs.Steps.{answer_frames, ends_connection, leave_on, pump_batch, pump_on, pump_with, take_act, take_first, take_frame, take_next, take_on}
@@ -52,7 +53,7 @@ leave_none answered = of_leave_answer NoDones tt (λ about code kept more. tt) a
 
 join_none : (answered : Reply) → NoDones (answer_frames (join_answer answered))
 join_none (reply.Joined seq time last from base) = tt
-join_none (reply.Refused why) = refusal_none 1 why
+join_none (reply.Refused why) = refusal_none JOIN_TAG why
 join_none (reply.Stamped seq time) = tt
 join_none (reply.Again seq time) = tt
 join_none (reply.Ticked time) = tt
@@ -180,7 +181,7 @@ act_keeps_order m published s number c cursor up.Leave rest now fine numbered or
     (leave_none o.reply) (leave_same s.session cursor.view cursor.joined now)
     (leave_moves s.session c.cursor cursor.view cursor.joined now (λ time. exit_entry_same s.session time cursor.view))
 act_keeps_order m published s number c cursor (up.Join session view want) rest now fine numbered ordered at going is named ups =
-    at_once_order m published s number c (up.Join session view want ∷ rest) rest (Refused 1 15 0 0) fine numbered ordered at going ups (record { rise = λ k h. h; end = λ k. refl; above = λ k h. h; none = λ h. h }) tt
+    at_once_order m published s number c (up.Join session view want ∷ rest) rest second_join_frame fine numbered ordered at going ups (record { rise = λ k h. h; end = λ k. refl; above = λ k h. h; none = λ h. h }) tt
 act_keeps_order m published s number c cursor up.Alive rest now fine numbered ordered at going is named ups =
     at_once_order m published s number c (up.Alive ∷ rest) rest Alive fine numbered ordered at going ups (record { rise = λ k h. h; end = λ k. refl; above = λ k h. h; none = λ h. h }) tt
 

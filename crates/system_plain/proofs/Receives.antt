@@ -5,6 +5,7 @@ use Rattle.tea_base.proofs.LogLaws.{TimesRise-legal}
 use Rattle.wire_frames.specs.declared.frame.ServerFrame.{ServerFrame}
 use Rattle.wire_frames.specs.declared.frame.ServerFrame.TheVariants.{Alive, Done, Recv, Refused, Snapped, Sync, Tick}
 use Rattle.wire_frames.specs.declared.start.Base.{Base}
+use Rattle.wire_frames.specs.declared.tags.TheConstants.{JOIN_TAG, SNAP_TAG}
 use Rattle.wire_frames.specs.Served.{ComesAt, Place, place_after}
 use Rattle.wire_frames.proofs.Times.{early_as_last}
 use Rattle.reflector_core.specs.PlainSession.{IsSoundSession, PlainSession}
@@ -58,7 +59,7 @@ taken_view m r (Recv entry) = view_if r.view r.synced _ _ (view_if r.view r.brok
 taken_view m r (Tick t) = view_if r.view r.synced _ _ (view_if r.view r.broken _ _ refl (view_if r.view (nat_lt t (m.time r.world)) _ _ refl refl)) refl
 taken_view m r (Done number seq time) = view_if r.view r.synced _ _ (done_view r r.outbox number) refl
 taken_view m r (Snapped time) = view_if r.view r.synced _ _ refl refl
-taken_view m r (Refused about code kept more) = view_if r.view (eqb about 3) _ _ refl (view_if r.view (eqb about 1) _ _ refl refl)
+taken_view m r (Refused about code kept more) = view_if r.view (eqb about SNAP_TAG) _ _ refl (view_if r.view (eqb about JOIN_TAG) _ _ refl refl)
 taken_view m r Alive = refl
 
 tick_within : (horizon : ℕ) (frame : ServerFrame) (rest : List ServerFrame) → TicksWithin horizon (frame ∷ rest) → TicksWithin horizon (frame ∷ []) × TicksWithin horizon rest
@@ -99,7 +100,7 @@ frame_within m laws s place r (Tick t) sound lives comes ticks =
     time_if m s.horizon (nat_lt t (m.time r.world)) _ _ (λ is. le) (λ is. rw (timed is) ticks.0))) (λ is. le)
 frame_within m laws s place r (Done number seq time) sound lives comes ticks = time_if m s.horizon r.synced _ _ (λ is. done_time m r r.outbox number s.horizon lives.within) (λ is. lives.within)
 frame_within m laws s place r (Snapped time) sound lives comes ticks = time_if m s.horizon r.synced _ _ (λ is. lives.within) (λ is. lives.within)
-frame_within m laws s place r (Refused about code kept more) sound lives comes ticks = time_if m s.horizon (eqb about 3) _ _ (λ is. lives.within) (λ is. time_if m s.horizon (eqb about 1) _ _ (λ is. lives.within) (λ is. lives.within))
+frame_within m laws s place r (Refused about code kept more) sound lives comes ticks = time_if m s.horizon (eqb about SNAP_TAG) _ _ (λ is. lives.within) (λ is. time_if m s.horizon (eqb about JOIN_TAG) _ _ (λ is. lives.within) (λ is. lives.within))
 frame_within m laws s place r Alive sound lives comes ticks = lives.within
 
 begins_time : {W O : Type 0} (m : Worlds W O) → AreWorlds m → (r : PlainReplica W O) (how : How) (from horizon : ℕ) (base : Option Base) → IsBasedBy horizon base → m.time r.world ≤ horizon → m.time (begins_with m r how from base).replica.world ≤ horizon
@@ -172,9 +173,9 @@ received_waiting m laws s r c (Sync joined last from base) rest sound synced own
 received_waiting m laws s r c (Refused about code kept more) rest sound synced owned nothing lives waits =
     let new = (taken m r (Refused about code kept more)).replica in
     let over = waits.1 in
-    let still : new.synced ≡ false = unsynced_if (eqb about 3) _ _ synced (unsynced_if (eqb about 1) _ _ synced synced) in
+    let still : new.synced ≡ false = unsynced_if (eqb about SNAP_TAG) _ _ synced (unsynced_if (eqb about JOIN_TAG) _ _ synced synced) in
     record {
-      lives = lives_if m s (eqb about 3) _ _ lives (lives_if m s (eqb about 1) _ _ (same_lives m s r _ refl refl refl lives) lives);
+      lives = lives_if m s (eqb about SNAP_TAG) _ _ lives (lives_if m s (eqb about JOIN_TAG) _ _ (same_lives m s r _ refl refl refl lives) lives);
       joined = record {
         owned = owned ∙ sym (taken_view m r (Refused about code kept more));
         opens = λ fresh going. absurd cc;

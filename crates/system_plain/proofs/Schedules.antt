@@ -3,6 +3,7 @@ use Rattle.std.proofs.Common.{◌++◌, ℕ, ◌≡◌, Bool, true, false, cond,
 use Rattle.tea_base.specs.Readings.{last_number}
 use Rattle.wire_frames.specs.declared.frame.ServerFrame.{ServerFrame}
 use Rattle.wire_frames.specs.declared.frame.ServerFrame.TheVariants.{Alive, Done, Recv, Refused, Snapped, Sync, Tick}
+use Rattle.wire_frames.specs.declared.tags.TheConstants.{JOIN_TAG, SNAP_TAG}
 use Rattle.reflector_core.specs.PlainSession.{IsSoundSession, PlainSession}
 use Rattle.replica_plain.specs.declared.fault.ReplicaFault.{ReplicaFault}
 use Rattle.replica_plain.specs.PlainReplica.{PlainReplica}
@@ -98,7 +99,7 @@ next_frame_fine m laws published s r c (Done number seq time) rest true sound is
     fine_of_none _ (ap (λ (x : Taken _ _). x.fault) (done_is_taken m published s r number seq time rest is box prefixes dones (subst (DonesRise r.acknowledged) down (runs.dones is))).3)
 next_frame_fine m laws published s r c (Done number seq time) rest false sound is down lives joined runs prefixes box dones = absurd (subst (WaitsForSync m s r c.closed c.over c.cursor) down (joined.waits is))
 next_frame_fine m laws published s r c (Snapped time) rest true sound is down lives joined runs prefixes box dones = subst (λ (x : Taken _ _). IsNoSurprise x.fault) (sym (when_synced_is r (takes r) is)) tt
-next_frame_fine m laws published s r c (Refused about code kept more) rest synced sound is down lives joined runs prefixes box dones = no_surprise_if (eqb about 3) _ _ tt (no_surprise_if (eqb about 1) _ _ tt tt)
+next_frame_fine m laws published s r c (Refused about code kept more) rest synced sound is down lives joined runs prefixes box dones = no_surprise_if (eqb about SNAP_TAG) _ _ tt (no_surprise_if (eqb about JOIN_TAG) _ _ tt tt)
 next_frame_fine m laws published s r c Alive rest synced sound is down lives joined runs prefixes box dones = tt
 next_frame_fine m laws published s r c (Sync j last from base) rest false sound is down lives joined runs prefixes box dones =
     let waits = subst (WaitsForSync m s r c.closed c.over c.cursor) down (joined.waits is) in

@@ -9,6 +9,9 @@ use Rattle.wire_frames.specs.declared.frame.ServerFrame.{ServerFrame}
 use Rattle.wire_frames.specs.declared.frame.ServerFrame.TheVariants as server
 use Rattle.wire_frames.specs.declared.start.Base.{Base}
 use Rattle.wire_frames.specs.declared.start.Want.{Want}
+use Rattle.wire_frames.specs.declared.tags.TheConstants.{JOIN_TAG}
+use Rattle.wire_frames.specs.declared.code.RefusalCode.TheVariants as code
+use Rattle.wire_frames.specs.Codes.{code_number}
 use Rattle.wire_frames.specs.Spelling.{client_tag}
 use Rattle.reflector_core.specs.PlainSession.{PlainSession}
 use Rattle.reflector_core.specs.declared.request.Refusal.{Refusal}
@@ -165,10 +168,10 @@ take_joined m s number now c view wanted rest seq time last from base at going f
 
 pub take_join_refused : {W O : Type 0} (m : Worlds W O) (s : System W O) (number now : ℕ) (c : Connection) (view : ℕ) (wanted : Want) (rest : List ClientFrame) (why : Refusal) → slice_get s.connections number ≡ Some c → c.over ≡ false → c.cursor ≡ None → c.up ≡ up.Join (record { 0 = m.session }) view wanted ∷ rest
     → (answer s.session (request.Join view now wanted)).reply ≡ reply.Refused why
-    → after_step m s (Take number now) ≡ took s number (answer s.session (request.Join view now wanted)).session (record c { up = rest; down = cond c.closed c.down (c.down ++ refused_frame 1 why ∷ []); cursor = None; over = true })
+    → after_step m s (Take number now) ≡ took s number (answer s.session (request.Join view now wanted)).session (record c { up = rest; down = cond c.closed c.down (c.down ++ refused_frame JOIN_TAG why ∷ []); cursor = None; over = true })
 take_join_refused m s number now c view wanted rest why at going fresh ups replied =
     join_taken m s number now c view wanted rest (reply.Refused why) at going fresh ups replied
-    ∙ ap (λ (over : Bool). took s number (answer s.session (request.Join view now wanted)).session (record c { up = rest; down = cond c.closed c.down (c.down ++ refused_frame 1 why ∷ []); cursor = None; over = over || true })) going
+    ∙ ap (λ (over : Bool). took s number (answer s.session (request.Join view now wanted)).session (record c { up = rest; down = cond c.closed c.down (c.down ++ refused_frame JOIN_TAG why ∷ []); cursor = None; over = over || true })) going
 
 -- ---- which replies end a connection
 
@@ -199,11 +202,11 @@ take_goes_on m s number now c cursor frame rest asked given at going has ups is 
 
 pub take_stale : {W O : Type 0} (m : Worlds W O) (s : System W O) (number now : ℕ) (c : Connection) (cursor : Cursor) (frame : ClientFrame) (rest : List ClientFrame) (asked : Request) (current : ℕ) → slice_get s.connections number ≡ Some c → c.over ≡ false → c.cursor ≡ Some cursor → c.up ≡ frame ∷ rest → act_on cursor frame now ≡ Call asked
     → (answer s.session asked).reply ≡ reply.Refused (refusal.Stale current)
-    → after_step m s (Take number now) ≡ took s number (answer s.session asked).session (record c { up = rest; down = cond c.closed c.down (c.down ++ server.Refused (client_tag frame) 1 current 0 ∷ []); over = true })
+    → after_step m s (Take number now) ≡ took s number (answer s.session asked).session (record c { up = rest; down = cond c.closed c.down (c.down ++ server.Refused (client_tag frame) (code_number code.Stale) current 0 ∷ []); over = true })
 take_stale m s number now c cursor frame rest asked current at going has ups is replied =
     request_taken m s number now c cursor frame rest asked (reply.Refused (refusal.Stale current)) at going has ups is replied
     ∙ ap (λ (told : Option ServerFrame). took s number (answer s.session asked).session (over_if true (put_down (with_up c rest) (answer_frames told)))) (refusal_names cursor frame now asked (refusal.Stale current) is)
-    ∙ ap (λ (over : Bool). took s number (answer s.session asked).session (record c { up = rest; down = cond c.closed c.down (c.down ++ server.Refused (client_tag frame) 1 current 0 ∷ []); over = over || true })) going
+    ∙ ap (λ (over : Bool). took s number (answer s.session asked).session (record c { up = rest; down = cond c.closed c.down (c.down ++ server.Refused (client_tag frame) (code_number code.Stale) current 0 ∷ []); over = over || true })) going
 
 nothing_down : (closed : Bool) (frames : List ServerFrame) → cond closed frames (frames ++ []) ≡ frames
 nothing_down true frames = refl

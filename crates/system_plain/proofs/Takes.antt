@@ -5,6 +5,7 @@ use Rattle.wire_frames.specs.declared.frame.ClientFrame.{ClientFrame}
 use Rattle.wire_frames.specs.declared.frame.ClientFrame.TheVariants as up
 use Rattle.wire_frames.specs.declared.frame.ServerFrame.{ServerFrame}
 use Rattle.wire_frames.specs.declared.frame.ServerFrame.TheVariants.{Alive, Done, Recv, Refused, Snapped, Sync, Tick}
+use Rattle.wire_frames.specs.declared.tags.TheConstants.{SEND_TAG}
 use Rattle.wire_frames.specs.Served.{Place, Streams, place_after, place_after_all}
 use Rattle.wire_frames.proofs.Streams.{Streams-append}
 use Rattle.reflector_core.specs.declared.request.Refusal.{Refusal}
@@ -20,7 +21,7 @@ use Rattle.replica_plain.specs.PlainReplica.{PlainReplica}
 use Rattle.replica_plain.specs.Worlds.{IsHonest, Worlds}
 use Rattle.join_sync.specs.declared.cursor.Cursor.{Cursor}
 use Rattle.join_sync.specs.Answers.{answer_frame, leave_answer, send_answer, snap_answer}
-use Rattle.join_sync.specs.Refusals.{refused_frame}
+use Rattle.join_sync.specs.Refusals.{refused_frame, second_join_frame}
 use Rattle.join_sync.specs.Requests.{act_on}
 use Rattle.system_plain.specs.Steps.{answer_frames, ask_on, ends_connection, take_act}
 use Rattle.system_plain.specs.System.{Connection, System, over_if, put_down, with_connection, with_cursor, with_up}
@@ -47,7 +48,7 @@ refusal_replies about why = of_refusal AreAnswers (λ about code kept more. tt) 
 pub send_replies : (number : ℕ) (answered : Reply) → AreAnswers (answer_frames (send_answer number answered))
 send_replies number (reply.Stamped seq time) = tt
 send_replies number (reply.Again seq time) = tt
-send_replies number (reply.Refused why) = refusal_replies 2 why
+send_replies number (reply.Refused why) = refusal_replies SEND_TAG why
 send_replies number reply.Kept = tt
 send_replies number (reply.Left seq time) = tt
 send_replies number (reply.Joined seq time last from base) = tt
@@ -192,7 +193,7 @@ answers_keeps_worlds m s number c cursor rest frame fine at going is snaps are =
     (λ view client is_client same joined. subst (λ (x : Connection). NewestStands m s.session client.replica x) (over_stays (put_down (with_up c rest) (frame ∷ []))) (replies_on m s.session client.replica c cursor rest (frame ∷ []) false going is are joined))
 
 pub act_keeps_worlds : {W O : Type 0} (m : Worlds W O) (s : System W O) (number : ℕ) (c : Connection) (cursor : Cursor) (frame : ClientFrame) (rest : List ClientFrame) (now : ℕ) → WorldsStand m s → slice_get s.connections number ≡ Some c → c.over ≡ false → c.cursor ≡ Some cursor → cursor.view < 2 ^ 32 → SnapsHonest m s.session (frame ∷ rest) → WorldsStand m (take_act s number (with_up c rest) (act_on cursor frame now))
-act_keeps_worlds m s number c cursor (up.Join session view want) rest now fine at going is bound snaps = answers_keeps_worlds m s number c cursor rest (Refused 1 15 0 0) fine at going is snaps tt
+act_keeps_worlds m s number c cursor (up.Join session view want) rest now fine at going is bound snaps = answers_keeps_worlds m s number c cursor rest second_join_frame fine at going is snaps tt
 act_keeps_worlds m s number c cursor (up.Send k payload) rest now fine at going is bound snaps = calls_keeps_worlds m s number c cursor rest (request.Send cursor.view cursor.joined k payload now) fine at going is snaps tt bound (send_replies k _)
 act_keeps_worlds m s number c cursor (up.Snap time bytes) rest now fine at going is bound snaps = calls_keeps_worlds m s number c cursor rest (request.Offer cursor.view cursor.joined time bytes) fine at going is snaps.1 snaps.0 bound (snap_replies time _)
 act_keeps_worlds m s number c cursor up.Leave rest now fine at going is bound snaps = calls_keeps_worlds m s number c cursor rest (request.Leave cursor.view cursor.joined now) fine at going is snaps tt bound (leave_replies _)

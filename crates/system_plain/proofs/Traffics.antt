@@ -25,7 +25,7 @@ use Rattle.replica_plain.specs.Worlds.{AreWorlds, Worlds}
 use Rattle.join_sync.specs.declared.cursor.Cursor.{Cursor}
 use Rattle.join_sync.specs.declared.early.Early.{Early}
 use Rattle.join_sync.specs.declared.early.Early.TheVariants.{NotJoined, OtherSession}
-use Rattle.join_sync.specs.Refusals.{early_frame}
+use Rattle.join_sync.specs.Refusals.{early_frame, second_join_frame}
 use Rattle.system_plain.specs.ConnectionLine.{ConnectionLine, hears, hears_first, line_on, open_connection, pumps, pumps_batch, with_line}
 use Rattle.system_plain.specs.Schedule.{AreTypedSteps, IsSchedule, SpellWorlds, ViewPayloads, after_schedule, nothing_published, published_after, run_schedule}
 use Rattle.system_plain.specs.Steps.{Cut, Found, Publish, Pump, Receive, Reconnect, Restart, Snap, SystemStep, Take, Transmit, after_step, ask_on, asked_connection, connect, cut_on, found, joined_connection, leave_on, may_publish, publish_by, pump_batch, pump_on, pump_with, receive_by, receive_next, receive_on, reconnect_by, restart_by, snap_by, snap_on, take_first, take_frame, take_on, transmit_by, transmit_on, whole_for}
@@ -289,7 +289,7 @@ closed_take m s number c None (up.Send k payload) rest now traffics stands at cl
 closed_take m s number c None (up.Snap time bytes) rest now traffics stands at closed sound = closed_early s number c (up.Snap time bytes) rest NotJoined traffics stands at closed
 closed_take m s number c None up.Leave rest now traffics stands at closed sound = closed_early s number c up.Leave rest NotJoined traffics stands at closed
 closed_take m s number c None up.Alive rest now traffics stands at closed sound = closed_early s number c up.Alive rest NotJoined traffics stands at closed
-closed_take m s number c (Some cursor) (up.Join session view want) rest now traffics stands at closed sound = closed_answers s number c (up.Join session view want) rest (Refused 1 15 0 0) traffics stands at closed
+closed_take m s number c (Some cursor) (up.Join session view want) rest now traffics stands at closed sound = closed_answers s number c (up.Join session view want) rest second_join_frame traffics stands at closed
 closed_take m s number c (Some cursor) (up.Send k payload) rest now traffics stands at closed sound = closed_asks s number c (up.Send k payload) rest (request.Send cursor.view cursor.joined k payload now) traffics stands at closed sound
 closed_take m s number c (Some cursor) (up.Snap time bytes) rest now traffics stands at closed sound = closed_asks s number c (up.Snap time bytes) rest (request.Offer cursor.view cursor.joined time bytes) traffics stands at closed sound
 closed_take m s number c (Some cursor) up.Leave rest now traffics stands at closed sound = closed_asks s number c up.Leave rest (request.Leave cursor.view cursor.joined now) traffics stands at closed sound

@@ -19,6 +19,9 @@ use Rattle.wire_frames.specs.declared.frame.ClientFrame.{ClientFrame}
 use Rattle.wire_frames.specs.declared.frame.ServerFrame.{ServerFrame}
 use Rattle.wire_frames.specs.Frames.{IsTypedClient}
 use Rattle.wire_frames.specs.declared.frame.ServerFrame.TheVariants as server
+use Rattle.wire_frames.specs.declared.tags.TheConstants.{NO_TAG}
+use Rattle.wire_frames.specs.declared.code.RefusalCode.TheVariants as code
+use Rattle.wire_frames.specs.Codes.{code_number}
 use Rattle.system_plain.specs.System.{System, Connection}
 use Rattle.system_plain.specs.Steps.{answer_frames, ends_connection, joined_view}
 
@@ -41,7 +44,7 @@ first_line s = record { session = s; cursor = None; over = false; given = []; se
 
 -- the frame that refuses one that could not be read
 abbrev pub unread_frame : ServerFrame
-unread_frame = server.Refused 0 13 0 0
+unread_frame = server.Refused NO_TAG (code_number code.BadFrame) 0 0
 
 -- the first frame makes a Join, or ends the connection
 abbrev pub hears_first : ConnectionLine → ClientFrame → Result Request Early → ConnectionLine

@@ -7,6 +7,9 @@ ghost use Rattle.wire_frames.specs.declared.frame.ServerFrame.TheVariants as ser
 ghost use Rattle.wire_frames.specs.declared.start.Base.{Base};
 ghost use Rattle.wire_frames.specs.declared.start.Want.{Want};
 ghost use Rattle.wire_frames.specs.declared.start.Want.TheVariants as want;
+ghost use Rattle.wire_frames.specs.declared.tags.TheConstants.{JOIN_TAG};
+ghost use Rattle.wire_frames.specs.declared.code.RefusalCode.TheVariants as code;
+ghost use Rattle.wire_frames.specs.Codes.{code_number};
 ghost use Rattle.wire_frames.specs.Spelling.{client_tag};
 ghost use Rattle.reflector_core.specs.Answer.{answer};
 ghost use Rattle.reflector_core.specs.declared.request.Refusal.{Refusal};
@@ -79,7 +82,7 @@ pub fn steps_spelled_out<W, O>()
         → after_step m s (Take number now) ≡ record {
           session = (answer s.session (Join view now wanted)).session;
           clients = s.clients;
-          connections = set s.connections number (record c { up = rest; down = if c.closed then c.down else c.down ++ refused_frame 1 refusal ∷ []; cursor = None; over = true });
+          connections = set s.connections number (record c { up = rest; down = if c.closed then c.down else c.down ++ refused_frame JOIN_TAG refusal ∷ []; cursor = None; over = true });
         } }
     ensures cuts { (m : Worlds W O) (s : System W O) (number up down : ℕ) (c : Connection) → slice_get s.connections number ≡ Some c
         → after_step m s (Cut number up down) ≡ record s { connections = set s.connections number (record c { up = take up c.up; down = take down c.down; closed = true }) } }
@@ -140,7 +143,7 @@ pub fn connections_end<W, O>()
         → after_step m s (Take number now) ≡ record {
           session = (answer s.session request).session;
           clients = s.clients;
-          connections = set s.connections number (record c { up = rest; down = if c.closed then c.down else c.down ++ server_frame.Refused (client_tag frame) 1 current 0 ∷ []; over = true });
+          connections = set s.connections number (record c { up = rest; down = if c.closed then c.down else c.down ++ server_frame.Refused (client_tag frame) (code_number code.Stale) current 0 ∷ []; over = true });
         } }
     ensures left { (m : Worlds W O) (s : System W O) (number now : ℕ) (c : Connection) (cursor : Cursor) (rest : List ClientFrame) (seq time : ℕ)
         → slice_get s.connections number ≡ Some c → c.over ≡ false → c.cursor ≡ Some cursor → c.up ≡ client_frame.Leave ∷ rest

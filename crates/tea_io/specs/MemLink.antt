@@ -1,5 +1,5 @@
 -- What a link in memory tells, what its calls answer, and what they leave.
-use Rattle.std.specs.Prelude.{ℕ, List, [], ◌∷◌, ◌++◌, Result, Ok, Err, if◌then◌else◌}
+use Rattle.std.specs.Prelude.{ℕ, Bool, true, List, [], ◌∷◌, ◌++◌, Result, Ok, Err, if◌then◌else◌}
 use Rattle.tea_io.specs.declared.link.Heard.{Heard}
 use Rattle.tea_io.specs.declared.link.Heard.TheVariants.{Frame, Quiet, End, Failed, WantOfMemory}
 use Rattle.tea_io.specs.declared.link.LinkFault.{LinkFault}
@@ -9,7 +9,8 @@ use Rattle.tea_io.specs.Links.{Counts, note_of}
 use Rattle.tea_io.specs.Calls.{fails_at}
 
 -- a link in memory: the frames to come, what was heard, the frames that were sent, which calls fail
--- and which receives are quiet by their numbers, the number of the next call, and its counts
+-- and which receives are quiet by their numbers, the number of the next call, its counts, and whether
+-- it was closed
 pub record MemLinkState : Type 0 where
   pub coming : List (List ℕ)
   pub heard : List Heard
@@ -18,6 +19,7 @@ pub record MemLinkState : Type 0 where
   pub quiet : List ℕ
   pub next_call : ℕ
   pub counts : Counts
+  pub closed : Bool
 
 -- the first of the frames to come, or the end
 abbrev pub next_of : List (List ℕ) → Heard
@@ -74,3 +76,7 @@ after_send (Err fault.Failed) link frame =
       counts = record (link.counts) { faults = count_up link.counts.faults };
     }
 after_send (Err fault.WantOfMemory) link frame = link
+
+-- what a close leaves
+abbrev pub after_close : MemLinkState → MemLinkState
+after_close link = record link { closed = true }

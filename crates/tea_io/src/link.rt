@@ -1,5 +1,5 @@
 //! A link to one peer.
-ghost use Rattle.std.specs.Prelude.{◌≡◌, ℕ, List, Option};
+ghost use Rattle.std.specs.Prelude.{◌≡◌, ℕ, Bool, true, List, Option};
 ghost use Rattle.tea_io.specs.declared.link.Heard.{Heard};
 ghost use Rattle.tea_io.specs.declared.link.LinkFault.TheVariants.{WantOfMemory};
 ghost use Rattle.tea_io.specs.Told.{with_more};
@@ -57,6 +57,9 @@ pub trait Link {
     /// How often it failed, was quiet and said that it has ended. They are 0 when it is made.
     ghost counts: { Self → Counts };
 
+    /// Whether it was closed.
+    ghost closed: { Self → Bool };
+
     /// What comes next.
     fn recv(&mut self) -> Heard
         ensures heard { heard self.new ≡ with_more (heard self.old) (note_of result) }
@@ -72,4 +75,13 @@ pub trait Link {
         ensures coming { coming self.new ≡ coming self.old }
         ensures later { NoneFalls (counts self.old) (counts self.new) }
         ensures cause { SendCause (counts self.old) (counts self.new) result };
+
+    /// Its talk is over: whoever has it neither receives nor sends any more. So it may tell its peer that, and let go of the connection,
+    /// before it is given back. Nothing else that is told changes, and nothing is counted.
+    fn close(&mut self)
+        ensures closed { closed self.new ≡ true }
+        ensures heard { heard self.new ≡ heard self.old }
+        ensures coming { coming self.new ≡ coming self.old }
+        ensures sent { sent self.new ≡ sent self.old }
+        ensures counts { counts self.new ≡ counts self.old };
 }

@@ -1,9 +1,9 @@
 //! A link in memory.
-ghost use Rattle.std.specs.Prelude.{◌≡◌, ◌≤◌, [], Some, Err, length};
+ghost use Rattle.std.specs.Prelude.{◌≡◌, ◌≤◌, false, true, [], Some, Err, length};
 ghost use Rattle.tea_io.specs.Told.{with_more};
 ghost use Rattle.tea_io.specs.Calls.{IsAnswerOr};
 ghost use Rattle.tea_io.specs.Links.{no_counts, note_of, TakesFrame, NoneFalls, CountRises, Sends, SendCause};
-ghost use Rattle.tea_io.specs.MemLink.{link_recv_answer, after_recv, link_send_answer, after_send};
+ghost use Rattle.tea_io.specs.MemLink.{link_recv_answer, after_recv, link_send_answer, after_send, after_close};
 
 use crate::calls::is_failing;
 use crate::link::{Heard, Link, LinkFault};
@@ -33,6 +33,7 @@ pub struct MemLink {
     faults: u64,
     quiets: u64,
     ends: u64,
+    is_closed: bool,
     ghost within: { taken ≤ length frames.items },
 }
 
@@ -50,6 +51,7 @@ impl Model for MemLink {
       quiet = link.quiet;
       next_call = link.next_call;
       counts = record { faults = link.faults; quiets = link.quiets; ends = link.ends };
+      closed = link.is_closed;
     } };
 }
 
@@ -64,6 +66,7 @@ impl MemLink {
         ensures quiet { result.quiet ≡ quiet }
         ensures first { result.next_call ≡ 1 }
         ensures counts { result.counts ≡ no_counts }
+        ensures closed { result.closed ≡ false }
     {
         MemLink {
             alloc,
@@ -77,6 +80,7 @@ impl MemLink {
             faults: 0,
             quiets: 0,
             ends: 0,
+            is_closed: false,
         }
     }
 
@@ -114,6 +118,13 @@ impl MemLink {
     {
         self.ends
     }
+
+    /// Whether it was closed.
+    pub fn is_closed(&self) -> bool
+        ensures { result ≡ self.now.closed }
+    {
+        self.is_closed
+    }
 }
 
 impl Link for MemLink {
@@ -124,6 +135,8 @@ impl Link for MemLink {
     ghost sent = { λ link. Some link.sent };
 
     ghost counts = { λ link. link.counts };
+
+    ghost closed = { λ link. link.closed };
 
     fn recv(&mut self) -> Heard
         ensures heard { Some self.new.heard ≡ with_more (Some self.old.heard) (note_of result) }
@@ -190,5 +203,18 @@ impl Link for MemLink {
         push(&mut self.sent, copy)?;
         self.next_call = self.next_call.saturating_add(1);
         Ok(())
+    }
+
+    fn close(&mut self)
+        ensures closed { self.new.closed ≡ true }
+        ensures heard { Some self.new.heard ≡ Some self.old.heard }
+        ensures coming { Some self.new.coming ≡ Some self.old.coming }
+        ensures sent { Some self.new.sent ≡ Some self.old.sent }
+        ensures counts { self.new.counts ≡ self.old.counts }
+
+        // All that it leaves.
+        ensures leaves { self.new ≡ after_close self.old }
+    {
+        self.is_closed = true;
     }
 }

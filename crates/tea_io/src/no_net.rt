@@ -1,5 +1,5 @@
 //! A net that is not there.
-ghost use Rattle.std.specs.Prelude.{◌≡◌, ◌≤◌, None, Err};
+ghost use Rattle.std.specs.Prelude.{◌≡◌, ◌≤◌, true, None, Err};
 ghost use Rattle.tea_io.specs.Told.{count_up};
 ghost use Rattle.tea_io.specs.Links.{only_faults};
 ghost use Rattle.tea_io.specs.Nets.{NetCause};
@@ -113,6 +113,8 @@ impl Link for NoLink {
 
     ghost counts = { λ link. only_faults link.faults };
 
+    ghost closed = { λ link. true };
+
     fn recv(&mut self) -> Heard
         ensures later { self.old.faults ≤ self.new.faults }
         ensures answer { result ≡ Heard.Failed }
@@ -130,4 +132,6 @@ impl Link for NoLink {
         self.faults = self.faults.saturating_add(1);
         Err(LinkFault::Failed)
     }
+
+    fn close(&mut self) {}
 }

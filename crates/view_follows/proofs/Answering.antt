@@ -23,6 +23,7 @@ use Rattle.wire_frames.specs.declared.frame.ClientFrame.{ClientFrame}
 use Rattle.wire_frames.specs.declared.frame.ClientFrame.TheVariants as client
 use Rattle.wire_frames.specs.declared.frame.ServerFrame.{ServerFrame}
 use Rattle.wire_frames.specs.declared.frame.ServerFrame.TheVariants.{Sync, Recv, Tick, Done, Snapped, Refused, Alive}
+use Rattle.wire_frames.specs.declared.tags.TheConstants.{JOIN_TAG, SNAP_TAG}
 use Rattle.wire_frames.proofs.ClientCodec.{client_codec}
 use Rattle.model_value.specs.Payload.{payload_spelling}
 use Rattle.replica_plain.specs.declared.how.How.{How}
@@ -444,7 +445,7 @@ module _ (m : RealWorlds) (log : List Entry) (view : ℕ) where
   refused_stands v aim frame (Some (fault.Refused about code kept)) link is = tt
   refused_stands v aim frame (Some other) link is = absurd is
 
-  takes_refused : (r other : RealReplica) (about code kept more start done : ℕ) (numbers : List ℕ) (of_snap of_join : Bool) → (of_snap ≡ true → about ≡ 3) → HasGiven r start (done + 0) numbers
+  takes_refused : (r other : RealReplica) (about code kept more start done : ℕ) (numbers : List ℕ) (of_snap of_join : Bool) → (of_snap ≡ true → about ≡ SNAP_TAG) → HasGiven r start (done + 0) numbers
       → let t = (if of_snap then takes r else if of_join then faults other (fault.Refused about code kept) else faults r (fault.Refused about code kept)) in
       TakesNext (Refused about code kept more) t start done numbers ⊎ IsRefused t.fault
   takes_refused r other about code kept more start done numbers true of_join is has = inl (record { fine = refl; none = is refl; has = has })
@@ -473,7 +474,7 @@ module _ (m : RealWorlds) (log : List Entry) (view : ℕ) where
       subst (λ (t : Taken _ _). TakesNext (Snapped time) t start done numbers ⊎ IsRefused t.fault) (sym (when_synced_is r (takes r) stands.synced)) (inl (record { fine = refl; none = tt; has = rw same has }))
   takes_next laws legal place r (Refused about code kept more) start done numbers stands comes next has =
       let same : done + 0 ≡ done = omega arith in
-      takes_refused r (record r { awaited = None }) about code kept more start done numbers (about == 3) (about == 1) (λ (is : (about == 3) ≡ true). grind (arith, nat_tests)) (rw same has)
+      takes_refused r (record r { awaited = None }) about code kept more start done numbers (about == SNAP_TAG) (about == JOIN_TAG) (λ (is : (about == SNAP_TAG) ≡ true). grind (arith, nat_tests)) (rw same has)
   takes_next laws legal place r Alive start done numbers stands comes next has =
       let same : done + 0 ≡ done = omega arith in
       inl (record { fine = refl; none = tt; has = rw same has })
@@ -652,7 +653,7 @@ module _ (m : RealWorlds) (log : List Entry) (view : ℕ) where
         → Served log (map (whole client_at) given) (frame ∷ []) → BeginsHonestly m log (frame ∷ []) → CountsEvents v.replica (Some frame) → JoinHears v how frame link m
     first_hears v how (Sync joined last from base) link given awaits nothing comes served honest counts = sync_hears v how joined last from base link given awaits nothing comes served honest counts
     first_hears v how (Refused about code kept more) link given awaits nothing comes served honest counts =
-        refusal_hears v how about code kept more (about == 3) (about == 1) (record v.replica { awaited = None }) link awaits (inr (about, code, kept, more, ap (λ (fs : List (Option ServerFrame)). fs ++ Some (Refused about code kept more) ∷ []) nothing))
+        refusal_hears v how about code kept more (about == SNAP_TAG) (about == JOIN_TAG) (record v.replica { awaited = None }) link awaits (inr (about, code, kept, more, ap (λ (fs : List (Option ServerFrame)). fs ++ Some (Refused about code kept more) ∷ []) nothing))
     first_hears v how (Recv entry) link given awaits nothing comes served honest counts = absurd (begins_link log (map (whole client_at) given) (Recv entry) [] served)
     first_hears v how (Tick time) link given awaits nothing comes served honest counts = absurd (begins_link log (map (whole client_at) given) (Tick time) [] served)
     first_hears v how (Done number seq time) link given awaits nothing comes served honest counts = absurd (begins_link log (map (whole client_at) given) (Done number seq time) [] served)

@@ -12,6 +12,7 @@ use Rattle.wire_frames.specs.declared.start.Base.{Base}
 use Rattle.wire_frames.specs.declared.frame.ClientFrame.{ClientFrame}
 use Rattle.wire_frames.specs.declared.frame.ServerFrame.{ServerFrame}
 use Rattle.wire_frames.specs.declared.frame.ServerFrame.TheVariants.{Sync, Recv, Tick, Done, Snapped, Refused, Alive}
+use Rattle.wire_frames.specs.declared.tags.TheConstants.{JOIN_TAG, SNAP_TAG}
 use Rattle.replica_plain.specs.declared.how.How.{How}
 use Rattle.replica_plain.specs.declared.how.How.TheVariants.{Fresh, Whole, Resume}
 use Rattle.replica_plain.specs.declared.fault.ReplicaFault.{ReplicaFault}
@@ -69,8 +70,8 @@ module _ (m : RealWorlds) (r : RealReplica) where
   frame_fault (Done number seq time) none = either_fault r.synced _ _ (done_fault r.outbox number) tt
   frame_fault (Snapped time) none = either_fault r.synced _ _ tt tt
   frame_fault (Refused about code kept more) none =
-      let is : about ≡ 3 = none in
-      refused_fault (record r { awaited = None }) about code kept (eqb about 3) (eqb about 1) (grind (arith, nat_tests))
+      let is : about ≡ SNAP_TAG = none in
+      refused_fault (record r { awaited = None }) about code kept (eqb about SNAP_TAG) (eqb about JOIN_TAG) (grind (arith, nat_tests))
   frame_fault Alive none = tt
 
 -- ---- how a view goes on, where it has only such ends

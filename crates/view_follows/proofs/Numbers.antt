@@ -10,6 +10,7 @@ use Rattle.wire_frames.specs.declared.frame.ClientFrame.{ClientFrame}
 use Rattle.wire_frames.specs.declared.frame.ClientFrame.TheVariants as client
 use Rattle.wire_frames.specs.declared.frame.ServerFrame.{ServerFrame}
 use Rattle.wire_frames.specs.declared.frame.ServerFrame.TheVariants.{Sync, Recv, Tick, Done, Snapped, Refused, Alive}
+use Rattle.wire_frames.specs.declared.tags.TheConstants.{SNAP_TAG}
 use Rattle.replica_plain.specs.Calls.{sends_after}
 use Rattle.view_follows.specs.Sessions.{ComesFrom}
 
@@ -98,7 +99,7 @@ sent_at number (bytes ∷ given) (first ∷ sent) (inr same) place at =
 
 -- no answer refuses anything but a snapshot
 abbrev pub IsNoRefusal : ServerFrame → Type 0
-IsNoRefusal (Refused about code kept more) = about ≡ 3
+IsNoRefusal (Refused about code kept more) = about ≡ SNAP_TAG
 IsNoRefusal frame = Unit {0}
 
 -- how many events were answered

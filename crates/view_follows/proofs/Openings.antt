@@ -15,6 +15,8 @@ use Rattle.wire_frames.specs.declared.start.Want.TheVariants as want
 use Rattle.wire_frames.specs.declared.frame.ClientFrame.{ClientFrame}
 use Rattle.wire_frames.specs.declared.frame.ServerFrame.{ServerFrame}
 use Rattle.wire_frames.specs.declared.frame.ServerFrame.TheVariants as server
+use Rattle.wire_frames.specs.declared.tags.TheConstants.{JOIN_TAG}
+use Rattle.wire_frames.specs.Codes.{code_number}
 use Rattle.reflector_core.specs.PlainSession.{PlainSession}
 use Rattle.reflector_core.specs.Answer.{SessionOutcome, answer, base_for, is_ahead, is_closed, join}
 use Rattle.reflector_core.specs.declared.request.Request.{Request}
@@ -123,7 +125,7 @@ joining_opens id asked (event ∷ events) join = inl (no_sync _ (silent id Wrong
 
 entered_opens : (id : SessionId) (frame : ClientFrame) (now : ℕ) (r : Result Request Early) (events : List TalkEvent) → first_request frame id now ≡ r → let walked = talk_walk id (entered_phase frame r) events in Opens walked.asked walked.sent
 entered_opens id frame now (Ok asked) events is = joining_opens id asked events (first_is_join frame id now asked is)
-entered_opens id frame now (Err early) events is = inl (refused_opens id (client_tag frame) (early_code early) 0 0 events)
+entered_opens id frame now (Err early) events is = inl (refused_opens id (client_tag frame) (code_number (early_code early)) 0 0 events)
 
 opened_opens : (id : SessionId) (frame : Option ClientFrame) (now : ℕ) (events : List TalkEvent) → let walked = talk_walk id (opened_phase id frame now) events in Opens walked.asked walked.sent
 opened_opens id None now events = inl (refused_opens id 0 13 0 0 events)
@@ -250,7 +252,7 @@ greeting_is_honest m log kept (reply.Joined seq time last from base) frame rest 
     subst (λ (f : ServerFrame). BeginsHonestly m log (f ∷ rest)) (some_frame (server.Sync seq last from base) frame is) (honest_or_none m log base kept tells honest)
 greeting_is_honest m log kept (reply.Refused refusal) frame rest tells is honest =
     let form = refused_form 1 refusal in
-    subst (λ (f : ServerFrame). BeginsHonestly m log (f ∷ rest)) (sym form.3 ∙ some_frame (refused_frame 1 refusal) frame is) tt
+    subst (λ (f : ServerFrame). BeginsHonestly m log (f ∷ rest)) (sym form.3 ∙ some_frame (refused_frame JOIN_TAG refusal) frame is) tt
 greeting_is_honest m log kept (reply.Stamped seq time) frame rest tells is honest = absurd (cc (is))
 greeting_is_honest m log kept (reply.Again seq time) frame rest tells is honest = absurd (cc (is))
 greeting_is_honest m log kept (reply.Ticked time) frame rest tells is honest = absurd (cc (is))

@@ -20,6 +20,7 @@ use Rattle.wire_frames.specs.declared.frame.ClientFrame.{ClientFrame}
 use Rattle.wire_frames.specs.declared.frame.ClientFrame.TheVariants as client
 use Rattle.wire_frames.specs.declared.frame.ServerFrame.{ServerFrame}
 use Rattle.wire_frames.specs.declared.frame.ServerFrame.TheVariants.{Sync, Recv, Tick, Done, Snapped, Refused, Alive}
+use Rattle.wire_frames.specs.declared.tags.TheConstants.{JOIN_TAG, SNAP_TAG}
 use Rattle.wire_frames.proofs.ClientCodec.{client_codec}
 use Rattle.model_value.specs.Payload.{payload_spelling}
 use Rattle.replica_plain.specs.declared.how.How.{How}
@@ -221,7 +222,7 @@ module _ (m : RealWorlds) (laws : AreWorlds m) (log : List Entry) (legal : IsLeg
         | inr order ↦ order_stands (with_taken v t) (ToJoin how) (Sync joined last from base) t.fault heard order
       ]
   first_stands v how given (Refused about code kept more) frames heard same its follows awaited told served honest =
-      refused_stands v how about code kept more (about == 3) (about == 1) (record v.replica { awaited = None }) heard (record {
+      refused_stands v how about code kept more (about == SNAP_TAG) (about == JOIN_TAG) (record v.replica { awaited = None }) heard (record {
         same = same;
         its = its;
         follows = follows;

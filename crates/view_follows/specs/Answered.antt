@@ -10,6 +10,7 @@ use Rattle.wire_frames.specs.Reading.{client_at, server_at}
 use Rattle.wire_frames.specs.Served.{Served}
 use Rattle.wire_frames.specs.declared.frame.ServerFrame.{ServerFrame}
 use Rattle.wire_frames.specs.declared.frame.ServerFrame.TheVariants.{Sync, Refused}
+use Rattle.wire_frames.specs.declared.tags.TheConstants.{SNAP_TAG}
 use Rattle.replica_plain.specs.Worlds.{Worlds}
 use Rattle.replica_plain.specs.PlainReplica.{PlainReplica, published_count}
 use Rattle.replica.specs.RealWorlds.{worlds}
@@ -79,7 +80,7 @@ GoOn quiets (step ∷ rest) = GoOn quiets rest
 
 -- nothing is refused but a snapshot
 abbrev pub RefusesNoOther : Option ServerFrame → Type 0
-RefusesNoOther (Some (Refused about code kept more)) = about ≡ 3
+RefusesNoOther (Some (Refused about code kept more)) = about ≡ SNAP_TAG
 RefusesNoOther frame = Unit {0}
 
 abbrev pub RefuseNoOther : List Step → Type 0

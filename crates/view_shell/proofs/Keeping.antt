@@ -6,6 +6,7 @@ use Rattle.tea_base.specs.declared.entry.Entry.{Entry}
 use Rattle.wire_frames.specs.declared.start.Base.{Base}
 use Rattle.wire_frames.specs.declared.frame.ServerFrame.{ServerFrame}
 use Rattle.wire_frames.specs.declared.frame.ServerFrame.TheVariants.{Sync, Recv, Tick, Done, Snapped, Refused, Alive}
+use Rattle.wire_frames.specs.declared.tags.TheConstants.{JOIN_TAG, SNAP_TAG}
 use Rattle.replica_plain.specs.declared.how.How.{How}
 use Rattle.replica_plain.specs.declared.how.How.TheVariants.{Fresh, Whole, Resume}
 use Rattle.replica_plain.specs.declared.fault.ReplicaFault.{ReplicaFault}
@@ -68,7 +69,7 @@ module _ {W O : Type 0} (m : Worlds W O) (r : PlainReplica W O) where
       if_keeps r (number == r.acknowledged + 1) _ _ (record { view = refl; published = acknowledged_count payload rest is }) (keeps_all r)
 
   refused_keeps : (about code kept : ℕ) → Keeps r (take_refused r about code kept).replica
-  refused_keeps about code kept = if_keeps r (about == 3) _ _ (keeps_all r) (if_keeps r (about == 1) _ _ (record { view = refl; published = refl }) (keeps_all r))
+  refused_keeps about code kept = if_keeps r (about == SNAP_TAG) _ _ (keeps_all r) (if_keeps r (about == JOIN_TAG) _ _ (record { view = refl; published = refl }) (keeps_all r))
 
   synced_keeps : (t : Taken W O) → Keeps r t.replica → Keeps r (when_synced r t).replica
   synced_keeps t keeps = if_keeps r r.synced _ _ keeps (keeps_all r)

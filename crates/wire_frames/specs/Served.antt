@@ -11,6 +11,9 @@ use Rattle.wire_frames.specs.declared.frame.ClientFrame.{ClientFrame}
 use Rattle.wire_frames.specs.declared.frame.ClientFrame.TheVariants as client
 use Rattle.wire_frames.specs.declared.frame.ServerFrame.{ServerFrame}
 use Rattle.wire_frames.specs.declared.frame.ServerFrame.TheVariants.{Sync, Recv, Tick, Done, Snapped, Refused, Alive}
+use Rattle.wire_frames.specs.declared.code.RefusalCode.TheVariants as refusal
+use Rattle.wire_frames.specs.declared.tags.TheConstants.{NO_TAG, JOIN_TAG, SEND_TAG, SNAP_TAG, LEAVE_TAG}
+use Rattle.wire_frames.specs.Codes.{code_number}
 
 -- ---- entries and ticks
 
@@ -59,13 +62,13 @@ IsEventAt log seq time view number payload =
 -- the answer that a frame of a view may have; None is a frame that could not be read
 abbrev pub AnswersFrame : List Entry → ℕ → Option ClientFrame → ServerFrame → Type 0
 AnswersFrame log view (Some (client.Send number payload)) (Done done seq time) = (done ≡ number) × IsEventAt log seq time view number payload
-AnswersFrame log view (Some (client.Send number payload)) (Refused about code kept more) = about ≡ 2
+AnswersFrame log view (Some (client.Send number payload)) (Refused about code kept more) = about ≡ SEND_TAG
 AnswersFrame log view (Some (client.Snap time bytes)) (Snapped snapped) = snapped ≡ time
-AnswersFrame log view (Some (client.Snap time bytes)) (Refused about code kept more) = about ≡ 3
-AnswersFrame log view (Some (client.Join session other want)) (Refused about code kept more) = (about ≡ 1) × (code ≡ 15)
-AnswersFrame log view (Some client.Leave) (Refused about code kept more) = about ≡ 4
+AnswersFrame log view (Some (client.Snap time bytes)) (Refused about code kept more) = about ≡ SNAP_TAG
+AnswersFrame log view (Some (client.Join session other want)) (Refused about code kept more) = (about ≡ JOIN_TAG) × (code ≡ code_number refusal.AlreadyJoined)
+AnswersFrame log view (Some client.Leave) (Refused about code kept more) = about ≡ LEAVE_TAG
 AnswersFrame log view (Some client.Alive) Alive = Unit {0}
-AnswersFrame log view None (Refused about code kept more) = (about ≡ 0) × (code ≡ 13)
+AnswersFrame log view None (Refused about code kept more) = (about ≡ NO_TAG) × (code ≡ code_number refusal.BadFrame)
 AnswersFrame log view given answer = ⊥
 
 -- a LEAVE may have no answer

@@ -43,10 +43,9 @@ pub enum ServerFrame {
     },
     /// A frame of the view was refused.
     Refused {
-        /// The tag of that frame; 0 of one that did not read.
+        /// The tag of that frame; [`NO_TAG`](crate::NO_TAG) of one that did not read.
         about: u8,
-        /// 1 to 11 are the refusals of a session in their order, then 12 another session, 13 no frame, 14 not joined, 15
-        /// joined already.
+        /// The number of a [`RefusalCode`](crate::RefusalCode). A frame that was read may have any other byte.
         code: u8,
         /// The number that the refusal carries, of whatever size; 0 where it carries none.
         kept: u64,

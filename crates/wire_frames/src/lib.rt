@@ -1,6 +1,7 @@
 //! The frames between a view and its session's reflector, and their one spelling.
 #![tactic(auto)]
 
+mod code;
 mod fault;
 mod fields;
 mod frame;
@@ -12,6 +13,7 @@ mod start;
 mod tags;
 mod writing;
 
+pub use code::RefusalCode;
 pub use fault::FrameFault;
 pub use frame::{ClientFrame, ClientFrames, ServerFrame, ServerFrames};
 pub use laws::{
@@ -19,5 +21,8 @@ pub use laws::{
 };
 pub use reading::{read_client, read_server};
 pub use start::{Base, Want};
-pub use tags::{ALIVE_TAG, JOIN_TAG, LEAVE_TAG, SEND_TAG, SNAP_TAG};
+pub use tags::{
+    ALIVE_TAG, DONE_TAG, JOIN_TAG, LEAVE_TAG, NO_TAG, RECV_TAG, REFUSED_TAG, SEND_TAG,
+    SERVER_ALIVE_TAG, SNAP_TAG, SNAPPED_TAG, SYNC_TAG, TICK_TAG,
+};
 pub use writing::{write_client, write_server};

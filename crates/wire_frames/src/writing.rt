@@ -7,7 +7,10 @@ ghost use Rattle.wire_frames.specs.Spelling.{frame_entry_spelling, base_spelling
 
 use crate::frame::{ClientFrame, ServerFrame};
 use crate::start::{Base, Want};
-use crate::tags::{ALIVE_TAG, JOIN_TAG, LEAVE_TAG, SEND_TAG, SNAP_TAG};
+use crate::tags::{
+    ALIVE_TAG, DONE_TAG, JOIN_TAG, LEAVE_TAG, RECV_TAG, REFUSED_TAG, SEND_TAG, SERVER_ALIVE_TAG,
+    SNAP_TAG, SNAPPED_TAG, SYNC_TAG, TICK_TAG,
+};
 use byte_fields::Writer;
 use entry_fields::{LentWhat, put_what};
 use std::alloc::Global;
@@ -82,7 +85,7 @@ fn put_server(out: &mut Writer, frame: &ServerFrame) -> Result<(), WantOfMemory>
             from,
             base,
         } => {
-            out.put_u8(65)?;
+            out.put_u8(SYNC_TAG)?;
             out.put_u32(*joined)?;
             out.put_u32(*last)?;
             out.put_u32(*from)?;
@@ -90,33 +93,33 @@ fn put_server(out: &mut Writer, frame: &ServerFrame) -> Result<(), WantOfMemory>
             Ok(())
         }
         ServerFrame::Recv(entry) => {
-            out.put_u8(66)?;
+            out.put_u8(RECV_TAG)?;
             put_entry(out, entry)?;
             Ok(())
         }
-        ServerFrame::Tick(time) => put_timed(out, 67, *time),
+        ServerFrame::Tick(time) => put_timed(out, TICK_TAG, *time),
         ServerFrame::Done { number, seq, time } => {
-            out.put_u8(68)?;
+            out.put_u8(DONE_TAG)?;
             out.put_u32(*number)?;
             out.put_u32(*seq)?;
             out.put_u64(*time)?;
             Ok(())
         }
-        ServerFrame::Snapped { time } => put_timed(out, 69, *time),
+        ServerFrame::Snapped { time } => put_timed(out, SNAPPED_TAG, *time),
         ServerFrame::Refused {
             about,
             code,
             kept,
             more,
         } => {
-            out.put_u8(70)?;
+            out.put_u8(REFUSED_TAG)?;
             out.put_u8(*about)?;
             out.put_u8(*code)?;
             out.put_u64(*kept)?;
             out.put_u64(*more)?;
             Ok(())
         }
-        ServerFrame::Alive => out.put_u8(71),
+        ServerFrame::Alive => out.put_u8(SERVER_ALIVE_TAG),
     }
 }
 

@@ -1,5 +1,5 @@
 //! A link over a WebSocket.
-ghost use Rattle.std.specs.Prelude.{◌≡◌, None};
+ghost use Rattle.std.specs.Prelude.{◌≡◌, false, None};
 ghost use Rattle.tea_io.specs.Links.{no_counts};
 ghost use Rattle.ws_link.specs.Counting.{counts_of};
 
@@ -26,22 +26,30 @@ use tea_io::{Heard, Link, LinkFault};
 /// of the protocol, a reset. A receive that is out of memory may have lost a message. After each of these the link answers so at each
 /// receive, and no frame is sent. A send fails where for 5 seconds not a byte was taken, or where the peer did not finish the handshake
 /// in about that time.
+///
+/// A close sends Close, reads on for at most a second until the peer ends TCP, and closes the socket. Then a receive says that the link
+/// has ended, and a send fails.
 #[derive(Drop)]
 pub struct WsLink<R: Clock + RandomSource + Copy> {
     alloc: Global,
+    rt: R,
     stage: Stage<R>,
     counters: Counters,
+    is_closed: bool,
 }
 
 impl<R: Clock + RandomSource + Copy> WsLink<R> {
     /// A link at this stage. Takes no memory.
-    pub(crate) fn new(alloc: Global, stage: Stage<R>) -> WsLink<R>
-        ensures { counts_of result.counters ≡ no_counts }
+    pub(crate) fn new(alloc: Global, rt: R, stage: Stage<R>) -> WsLink<R>
+        ensures counts { counts_of result.counters ≡ no_counts }
+        ensures closed { result.is_closed ≡ false }
     {
         WsLink {
             alloc,
+            rt,
             stage,
             counters: Counters::new(),
+            is_closed: false,
         }
     }
 
@@ -57,9 +65,13 @@ impl<R: Clock + RandomSource + Copy> WsLink<R> {
         self.stage.is_unshaken()
     }
 
-    /// Closes in good manners: sends Close, stops sending, and reads on to the peer's end, for a second since that time at the most.
-    pub(crate) fn close(self, since: Option<Instant>) {
-        self.stage.close(since);
+    /// Closes in good manners, if it is not closed: sends Close, stops sending, reads on to the peer's end, for a second since that time
+    /// at the most, and lets go of the connection.
+    pub(crate) fn close_since(&mut self, since: Option<Instant>)
+        ensures { self.new.counters ≡ self.old.counters }
+    {
+        let stage = mem::replace(&mut self.stage, Stage::Over(None, Last::Failed));
+        self.stage = stage.close(since);
     }
 }
 
@@ -71,6 +83,8 @@ impl<R: Clock + RandomSource + Copy> Link for WsLink<R> {
     ghost sent = { λ link. None };
 
     ghost counts = { λ link. counts_of link.counters };
+
+    ghost closed = { λ link. link.is_closed };
 
     fn recv(&mut self) -> Heard {
         let stage = mem::replace(&mut self.stage, Stage::Over(None, Last::Failed));
@@ -86,5 +100,11 @@ impl<R: Clock + RandomSource + Copy> Link for WsLink<R> {
         self.stage = stage;
         self.counters.note_sent(sent);
         sent
+    }
+
+    fn close(&mut self) {
+        let now = Instant::now(&self.rt).ok();
+        self.close_since(now);
+        self.is_closed = true;
     }
 }

@@ -112,7 +112,7 @@ impl<R: Clock + RandomSource + Copy> WsNet<R> {
             Ok(stage) => {
                 self.lent = lent;
                 self.closing = None;
-                Ok(WsLink::new(self.alloc, stage))
+                Ok(WsLink::new(self.alloc, self.rt, stage))
             }
             Err(NetFault::Failed) => Err(self.fail()),
             Err(NetFault::WantOfMemory) => Err(NetFault::WantOfMemory),
@@ -277,13 +277,13 @@ where
         }
     }
 
-    fn back(&mut self, conn: WsLink<R>) {
+    fn back(&mut self, mut conn: WsLink<R>) {
         self.lent -= 1;
         self.sums.add(conn.counters());
         self.is_unshaken = conn.is_unshaken();
         if self.closing.is_none() {
             self.closing = Instant::now(&self.rt).ok();
         }
-        conn.close(self.closing);
+        conn.close_since(self.closing);
     }
 }

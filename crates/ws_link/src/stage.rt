@@ -59,6 +59,8 @@ pub enum Stage<R: Clock + RandomSource + Copy> {
     Open(Socket<R>),
     /// Nothing more is heard or sent. A handshake that failed leaves no connection.
     Over(Option<Socket<R>>, Last),
+    /// Its connection was let go.
+    Closed { is_unshaken: bool },
 }
 
 /// The limits of a connection.
@@ -270,6 +272,7 @@ impl<R: Clock + RandomSource + Copy> Stage<R> {
         match self {
             Stage::Accepting(_) | Stage::Connecting(_) | Stage::Over(None, _) => true,
             Stage::Open(_) | Stage::Over(Some(_), _) => false,
+            Stage::Closed { is_unshaken } => *is_unshaken,
         }
     }
 
@@ -286,7 +289,7 @@ impl<R: Clock + RandomSource + Copy> Stage<R> {
     fn shake_hands_in_time(self, alloc: Global) -> Stage<R> {
         let mut stage = self;
         for _ in 0..SEND_TRIES {
-            if matches!(&stage, Stage::Open(_) | Stage::Over(_, _)) {
+            if !matches!(&stage, Stage::Accepting(_) | Stage::Connecting(_)) {
                 break;
             }
             stage = stage.shake_hands(alloc);
@@ -313,6 +316,7 @@ impl<R: Clock + RandomSource + Copy> Stage<R> {
                 };
                 (Stage::Over(socket, last), heard)
             }
+            Stage::Closed { is_unshaken } => (Stage::Closed { is_unshaken }, Heard::End),
             stage => (stage, Heard::Quiet),
         }
     }
@@ -336,15 +340,19 @@ impl<R: Clock + RandomSource + Copy> Stage<R> {
             Stage::Over(socket, Last::Ended | Last::Failed) => {
                 (Stage::Over(socket, Last::Failed), Err(LinkFault::Failed))
             }
+            Stage::Closed { is_unshaken } => {
+                (Stage::Closed { is_unshaken }, Err(LinkFault::Failed))
+            }
             Stage::Accepting(_) | Stage::Connecting(_) => {
                 (Stage::Over(None, Last::Failed), Err(LinkFault::Failed))
             }
         }
     }
 
-    /// Closes in good manners: sends Close, stops sending, and reads on for a while. Links that are closed in a row since some
-    /// time share that while.
-    pub fn close(self, since: Option<Instant>) {
+    /// Closes in good manners: sends Close, stops sending, reads on for a while, and lets go of the connection. Links that are closed in a
+    /// row since some time share that while.
+    pub fn close(self, since: Option<Instant>) -> Stage<R> {
+        let is_unshaken = self.is_unshaken();
         match self {
             Stage::Accepting(mut handshake) => {
                 handshake.get_ref().stop_sending();
@@ -360,7 +368,8 @@ impl<R: Clock + RandomSource + Copy> Stage<R> {
                 socket.get_mut().read_on(since);
             }
             Stage::Over(Some(mut socket), _) => socket.get_mut().read_on(since),
-            Stage::Over(None, _) => {}
+            Stage::Over(None, _) | Stage::Closed { .. } => {}
         }
+        Stage::Closed { is_unshaken }
     }
 }

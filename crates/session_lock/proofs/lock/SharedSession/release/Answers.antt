@@ -5,8 +5,8 @@ use Rattle.session_lock.proofs.StepLaws.{releases_me}
 use Rattle.session_lock.proofs.TrustLaws.{release_inside}
 use Rattle.session_lock.proofs.lock.SharedSession.release.Goals as goal
 
-pub fetch_add-requires : goal.fetch_add-requires
-fetch_add-requires g c = (
+pub fetch_add-served-requires : goal.fetch_add-served-requires
+fetch_add-served-requires g c = (
   cc (c.requires.table, c.self.view_is),
   omega (arith, c.self.invariant.0),
   releases_me (IsTrusted g.T.Trust.allows c.self.inside.table.shared.key.1 c.self.inside.table.shared.key.0) (KeepsHoped g.K.Keeper.holds g.K.Keeper.writes g.K.Keeper.shut g.K.Keeper.faults (g.K.Keeper.faults c.self.inside.table.shared.key.2.me.0.keeper)) _ c.args.seat.now.id c.args.seat.now.me c.self.invariant.1

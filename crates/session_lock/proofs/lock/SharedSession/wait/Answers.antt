@@ -32,12 +32,12 @@ pub returns-then-reach-clause-plays : goal.returns-then-reach-clause-plays
 returns-then-reach-clause-plays g c =
     plays_here g.J.Trusting.trusted c.args.seat.now.me.0.opening c.reach.new.seat.me c.end.new.seat.me.0.seen (ap (λ (m : M _). m.0.opening) (c.reach.ensures.next c.if-reach.true).turn.is) c.end.ensures.ended.4
 
-pub again-requires-clause-lost : goal.again-requires-clause-lost
-again-requires-clause-lost g c = (c.args.seat.now.me.0, c.reach.ensures.lost c.if-reach.false, c.requires.allowed)
+pub again-made-requires-clause-lost : goal.again-made-requires-clause-lost
+again-made-requires-clause-lost g c = (c.args.seat.now.me.0, c.reach.ensures.lost c.if-reach.false, c.requires.allowed)
 
 pub returns-clause-made : goal.returns-clause-made
-returns-clause-made g c = c.again.ensures.made c.args.seat.now.me.0 (c.reach.ensures.lost c.if-reach.false)
+returns-clause-made g c = c.again-made.ensures.made c.args.seat.now.me.0 (c.reach.ensures.lost c.if-reach.false)
 
 pub returns-clause-plays : goal.returns-clause-plays
 returns-clause-plays g c =
-    plays_here g.J.Trusting.trusted c.args.seat.now.me.0.opening c.reach.new.seat.me c.again.new.seat.me.0.seen (ap (λ (m : M _). m.0.opening) (c.reach.ensures.lost c.if-reach.false).turn.is) c.again.ensures.plays
+    plays_here g.J.Trusting.trusted c.args.seat.now.me.0.opening c.reach.new.seat.me c.again-made.new.seat.me.0.seen (ap (λ (m : M _). m.0.opening) (c.reach.ensures.lost c.if-reach.false).turn.is) c.again-made.ensures.plays
