@@ -25,6 +25,19 @@ def hold_port():
     return holder
 
 
+def wait_for_listener(port, process):
+    """Waits until a socket of this port of loopback listens. A connection that asked would be a link."""
+    until = time.monotonic() + Wire.patience
+    while not listens(port):
+        expect_that(time.monotonic() < until and process.poll() is None, "a server that listens", "none")
+        time.sleep(0.01)
+
+
+def listens(port):
+    with open("/proc/net/tcp", encoding="utf-8") as file:
+        return any(f":{port:04X} 00000000:0000 0A" in line for line in file)
+
+
 def join_frame(ident, view, want="whole", after=0):
     wants = {"fresh": b"\0", "whole": b"\1", "after": b"\2" + croquet.number(after, 8)}
     return croquet.framed(croquet.JOIN_TAG, ident, croquet.number(view, 4), wants[want])
@@ -74,6 +87,12 @@ class Reflector:
         self.wires.append(wire)
         return wire
 
+    def open(self, receive_buffer=None):
+        """A WebSocket, once it listens."""
+        wire = self.connect(receive_buffer)
+        websocket.ask(wire)
+        return wire
+
     def view(self, view, want="whole", after=0, receive_buffer=None):
         return View(self, view, want, after, receive_buffer)
 
@@ -100,9 +119,8 @@ class View:
     """A view by hand. What it is told has to be served from one log, in order."""
 
     def __init__(self, reflector, view, want, after, receive_buffer):
-        self.wire = reflector.connect(receive_buffer)
+        self.wire = reflector.open(receive_buffer)
         self.entries, self.tick, self.from_, self.number = [], 0, None, 0
-        websocket.ask(self.wire)
         self.say(join_frame(reflector.ident, view, want, after))
 
     def say(self, content):

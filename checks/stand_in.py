@@ -24,10 +24,11 @@ COMMANDS = {"stamp": (1, {"--from", "--log"}, set()), "check": (1, set(), set())
             "hub": (1, {"--logs"}, set()),
             "join": (5, {"--persisted"}, set()),
             "reflect": (3, {"--persisted", "--from", "--connections", "--journal", "--log"}, {"--connections"}),
+            "host": (2, {"--connections", "--logs"}, {"--connections", "--logs"}),
             "drill": (3, {"--log", "--snapshots"}, {"--log", "--snapshots"})}
 LIMITS = {"script": croquet.SCRIPT_BYTES, "program": croquet.PROGRAM_BYTES, "log": croquet.LOG_FILE_BYTES,
           "snapshot": croquet.MOST_SNAPSHOT, "persisted": croquet.MOST_JSON,
-          "queries": croquet.MOST_QUERIES_BYTES}
+          "queries": croquet.MOST_QUERIES_BYTES, "config": croquet.MOST_CONFIG_BYTES}
 DRILL = (b'class Root{field total;field n;init(o){this.total=0;this.n=0;subscribe("drill","add","add")'
          b';}add(v){this.total=this.total+v;this.n=this.n+1;if(this.n%16==0){this.future(1).mark();}}'
          b'mark(){publish("drill","mark",this.total);}}')
@@ -463,6 +464,80 @@ def shared_session(ident, options):
         write_file(options["--log"], kept.session.encoded())
     kept.cut()
     return journals.Reflecting(ident, kept, lambda: links.now()), journals.Talk
+
+
+# ---------------------------------------------------------------- a host
+
+
+class Peeked(OneLink):
+    """A link whose first frame was taken, and is given once more."""
+
+    def __init__(self, link, first):
+        super().__init__(link)
+        self.first = [first]
+
+    def recv(self):
+        return self.first.pop() if self.first else super().recv()
+
+
+def hear_first(link):
+    """The first frame of a link, or the word of its end."""
+    for _ in range(croquet.MOST_QUIET):
+        try:
+            heard = link.recv()
+        except croquet.Failed:
+            return None, "link-fault"
+        if heard is croquet.LINK_END:
+            return None, "link-end"
+        if heard is not croquet.QUIET:
+            return heard, None
+    return None, "idle"
+
+
+def serve_hosted(ids, sessions, link):
+    """The number of the session that serves a link, from 0, if one does, and the word of its end."""
+    first, word = hear_first(OneLink(link))
+    if first is None:
+        return None, word
+    place = croquet.goes_to(ids, first)
+    return place, Talk(sessions[place], Peeked(link, first)).run()
+
+
+def host(plain, options):
+    count = number(options["--connections"], 1, 65)
+    lines = croquet.read_config(read_file(plain[0], "config"))
+    sources = {}
+    for _, program in lines:
+        if program not in sources:
+            sources[program] = read_file(program, "program")
+            croquet.read_program(sources[program])
+    ids = croquet.hosted_ids(lines, sources)
+    croquet.check_address(plain[1])
+    sessions = [Reflecting(ident, croquet.Session(), lambda: links.now()) for ident in ids]
+    try:
+        listener = links.listen(links.socket_address(plain[1]))
+    except OSError:
+        tell(f"cannot listen at {plain[1]}: the port is in use")
+        raise croquet.Ended("net-fault", 6) from None
+    tell(f"listening at {plain[1]}")
+    accepted, ends, threads = [], {}, []
+    while len(accepted) < count:
+        link = links.accept_soon(listener)
+        if link is not None:
+            serve = lambda place, link: ends.update({place: serve_hosted(ids, sessions, link)})
+            threads.append(threading.Thread(target=serve, args=(len(accepted), link)))
+            accepted.append(link)
+            threads[-1].start()
+    for thread in threads:
+        thread.join()
+    links.close_all(accepted)
+    for place, shared in enumerate(sessions, 1):
+        write_file(f"{options['--logs']}{place}", shared.session.encoded())
+    for place in range(len(accepted)):
+        session, word = ends[place]
+        say(f"connection {place} session {'none' if session is None else session + 1} {word}")
+    for place, shared in enumerate(sessions, 1):
+        say(f"session {place} entries {len(shared.session.log)} time {shared.session.horizon}")
 
 
 # ---------------------------------------------------------------- the program

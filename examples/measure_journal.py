@@ -31,6 +31,7 @@ sys.dont_write_bytecode = True
 from case import Wrong, expect, expect_that  # noqa: E402
 from reference import croquet  # noqa: E402
 from reflector import EMPTY, LEAVE, View, hold_port, send_frame  # noqa: E402
+import websocket  # noqa: E402
 from websocket import BINARY, CLOSE, CLOSE_NORMAL, PING, PONG, Wire, frame  # noqa: E402
 
 import journal_reference as journal  # noqa: E402 (found by the path that `reference` has added)
@@ -71,9 +72,10 @@ class Reflector:
         with open(f"/proc/{self.process.pid}/task/{self.process.pid}/children", encoding="ascii") as file:
             return int((file.read().split() or [self.process.pid])[0])
 
-    def connect(self, _receive_buffer):
-        """A connection, as `View` asks for one."""
+    def open(self, _receive_buffer):
+        """A WebSocket, as `View` asks for one."""
         self.wires.append(Wire(socket.create_connection(("127.0.0.1", self.port))))
+        websocket.ask(self.wires[-1])
         return self.wires[-1]
 
     def view(self, number):

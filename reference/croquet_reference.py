@@ -1894,7 +1894,7 @@ class Session:
             state.current, state.here = entry.seq, kind == "join"
         return entry
 
-    def after_time(self, time):
+    def count_until(self, time):
         return sum(entry.time <= time for entry in self.log)
 
     def refuse_stale(self, view, joined):
@@ -1921,9 +1921,9 @@ class Session:
         self.refuse_end()
         from_, base = 0, ""
         if wanted == "after":
-            from_ = self.after_time(after)
+            from_ = self.count_until(after)
         elif wanted == "fresh" and self.kept is not None:
-            from_, base = self.after_time(self.kept[0]), f" base {self.kept[0]}"
+            from_, base = self.count_until(self.kept[0]), f" base {self.kept[0]}"
         entry = self.stamp(now, view, "join")
         return f"joined {entry.seq} {entry.time} {len(self.view(view).events)} {from_}{base}"
 
@@ -2163,6 +2163,36 @@ def hubbed(source):
         session = sessions.setdefault(ident, Session())
         lines.append(f"{name} {session.reply(request)}")
     return list(sessions.values()), lines
+
+
+MOST_CONFIG_BYTES, MOST_HOSTED = 65_536, 16
+
+
+def read_config(source):
+    """The name and the program of each session of a host's configuration."""
+    lines = [re.split(" +", line) for line in read_lines(source, MOST_CONFIG_BYTES, "input config")]
+    if not all(len(line) == 3 and line[0] == "session" and len(line[1].encode()) <= MOST_SESSION_NAME for line in lines):
+        raise Ended("input config", 3)
+    if not 1 <= len(lines) <= MOST_HOSTED:
+        raise Ended("input config", 3)
+    return [(name, program) for _, name, program in lines]
+
+
+def hosted_ids(sessions, sources):
+    """The ids of sessions, by the bytes of each program. No two are the same."""
+    ids = [session_id(name.encode(), sources[program]) for name, program in sessions]
+    if len(set(ids)) != len(ids):
+        raise Ended("input config", 3)
+    return ids
+
+
+def goes_to(ids, content):
+    """The number of the session, from 0, to which a link goes whose first frame is this."""
+    try:
+        tag, fields = read_client(content)
+    except Bad:
+        return 0
+    return ids.index(fields[0]) if tag == 1 and fields[0] in ids else 0
 
 
 def read_opening(source):

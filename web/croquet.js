@@ -100,24 +100,48 @@ export function readValue(text, at = 0) {
 
 // ---- the world as text
 
-function readObject(line) {
-  const [, number, name] = /^object (\d+) (\S+)/.exec(line);
-  const object = { ref: Number(number), class: name, fields: {} };
-  let at = `object ${number} ${name}`.length;
-  while (line[at] === " ") {
-    const [field, after] = readWord(line, at + 1);
-    const [value, end] = readValue(line, after + 1);
-    object.fields[field] = value;
-    at = end;
-  }
-  return object;
-}
-
 function frozen(value) {
   if (value === null || typeof value !== "object") return value;
   if (Array.isArray(value)) value.forEach(item => frozen(item));
   else for (const name in value) frozen(value[name]);
   return Object.freeze(value);
+}
+
+function readFields(text, from) {
+  const fields = {};
+  let at = from;
+  while (text[at] === " ") {
+    const [field, after] = readWord(text, at + 1);
+    const [value, end] = readValue(text, after + 1);
+    fields[field] = value;
+    at = end;
+  }
+  return frozen(fields);
+}
+
+// An object of a world. Its fields are read once they are asked for: a list of thousands may be another at each look, and a page may draw without it.
+// All have one getter, so that they are of one shape for the engine.
+class WorldObject {
+  #text;
+  #from;
+  #fields;
+
+  // A part of a text keeps all of it in memory. A text that is put together, and looked through, does not.
+  constructor(line) {
+    this.#text = "an " + line;
+    const [head, number, name] = /^an object (\d+) (\S+)/.exec(this.#text);
+    this.#from = head.length;
+    this.ref = Number(number);
+    this.class = name;
+    Object.defineProperty(this, "fields", { enumerable: true, get: WorldObject.#read });
+    Object.freeze(this);
+  }
+
+  static #read() {
+    if (this.#text !== null) this.#fields = readFields(this.#text, this.#from);
+    this.#text = null;
+    return this.#fields;
+  }
 }
 
 /** What was read of a world, so that the next look reads only what has changed. */
@@ -133,15 +157,17 @@ export class Reading {
     return this.lines[place + 1] === line ? place + 1 : -1;
   }
 
-  /** The objects of a world from its text, in its order. What they have is frozen, and one whose line is the same is not read again. */
+  /** The objects of a world from its text, in its order. What they have is frozen, and one whose line is the same is the one of the last look. */
   next(text) {
-    const lines = text.split("\n").filter(line => line.startsWith("object "));
+    const lines = [], objects = [];
     let place = 0;
-    const objects = lines.map(line => {
+    for (const line of text.split("\n")) {
+      if (!line.startsWith("object ")) continue;
       const found = this.placeOf(line, place);
       place = (found < 0 ? place : found) + 1;
-      return found < 0 ? frozen(readObject(line)) : this.objects[found];
-    });
+      lines.push(line);
+      objects.push(found < 0 ? new WorldObject(line) : this.objects[found]);
+    }
     this.lines = lines;
     this.objects = objects;
     return objects;
@@ -150,7 +176,9 @@ export class Reading {
 
 /** The objects of a world, by their numbers, from its text. */
 export function objectsOf(text, reading = new Reading()) {
-  return new Map(reading.next(text).map(object => [object.ref, object]));
+  const objects = new Map();
+  for (const object of reading.next(text)) objects.set(object.ref, object);
+  return objects;
 }
 
 /** The digest of a world, from its text. */
@@ -245,18 +273,18 @@ export class Page {
     return at;
   }
 
-  // The bytes that a call copies out, whose length it gives.
-  bytes(copy) {
+  // What a call copies out, whose length it gives, as it lies in the room until the next call.
+  laid(copy) {
     const length = Number(copy(this.room, BigInt(this.size)));
     if (length > this.size) {
       this.grow(length);
       copy(this.room, BigInt(this.size));
     }
-    return new Uint8Array(this.calls.memory.buffer, Number(this.room), length).slice();
+    return new Uint8Array(this.calls.memory.buffer, Number(this.room), length);
   }
 
   copied(call) {
-    return decoder.decode(this.bytes((room, size) => call(this.handle, room, size)));
+    return decoder.decode(this.laid((room, size) => call(this.handle, room, size)));
   }
 
   numbers() {
@@ -272,7 +300,7 @@ export class Page {
     const told = this.numbers();
     told.text = told.texts ? this.copied(this.calls.page_text) : "";
     told.frames = [];
-    for (let index = 0; index < told.count; index++) told.frames.push(this.bytes((room, size) => this.calls.page_frame(this.handle, index, room, size)));
+    for (let index = 0; index < told.count; index++) told.frames.push(this.laid((room, size) => this.calls.page_frame(this.handle, index, room, size)).slice());
     return told;
   }
 

@@ -176,19 +176,19 @@ function manyStrokes() {
 }
 
 // A stroke comes sixty times a second, and each is taken back in the end, since a world has room for 95 more. How often the world is read and drawn
-// meanwhile, each with the next frame: the rates of some rounds, the best one first.
+// meanwhile does not count, since two looks may share a frame. What counts are the frames in which something was painted: the rates of some rounds, the best one first.
 const DRAWS = `(async () => {
-  const world = session.world, pause = time => new Promise(done => setTimeout(done, time)), rates = [];
+  const ask = window.requestAnimationFrame.bind(window), pause = time => new Promise(done => setTimeout(done, time)), rates = [];
   while (rates.length < ${ROUNDS}) {
     const begun = performance.now();
-    let pictures = 0;
-    session.world = () => { pictures++; return world.call(session); };
+    const frames = new Set();
+    window.requestAnimationFrame = work => ask(time => { frames.add(time); work(time); });
     for (let count = 0; count < 90; count++) {
       session.publish('board', 'draw', [1, 2, 3 * count, 400]);
       await pause(16);
     }
-    rates.push(Math.round(pictures * 1000 / (performance.now() - begun)));
-    session.world = world;
+    rates.push(Math.round(frames.size * 1000 / (performance.now() - begun)));
+    window.requestAnimationFrame = ask;
     for (let count = 0; count < 90; count++) session.publish('board', 'undo');
     await session.settled();
     await pause(1000);
@@ -203,7 +203,7 @@ async function drawsMany(board, native) {
   const page = await board.page(native.port, 7);
   await page.until(hasStrokes(STROKES));
   const rates = await page.run(DRAWS);
-  check(`a board of ${STROKES} strokes is drawn ${rates} times a second`, rates[0] >= 30);
+  check(`a board of ${STROKES} strokes is drawn ${rates} times a second, and the middle one counts`, rates[ROUNDS >> 1] >= 30);
   await page.run("session.publish('board', 'draw', [1, 2, 300, 400]); true");
   const fresh = await board.page(native.port, 8);
   for (const one of [page, fresh]) await one.until(hasStrokes(STROKES + 1));

@@ -33,6 +33,11 @@ function stepped(page, frames) {
   }
 }
 
+// As the whiteboard reads a world: the fields of its strokes.
+function readStrokes(text, reading) {
+  for (const object of objectsOf(text, reading).values()) if (object.class === "Stroke") object.fields;
+}
+
 function tellBoard(count) {
   const frames = board(count), times = [];
   let page = null;
@@ -43,13 +48,13 @@ function tellBoard(count) {
   }
   const text = page.world().text, reading = new Reading();
   const looks = Array.from({ length: 21 }, () => timed(() => page.world()));
-  const reads = Array.from({ length: 21 }, () => timed(() => objectsOf(text)));
-  objectsOf(text, reading);
+  const reads = Array.from({ length: 21 }, () => timed(() => readStrokes(text)));
+  readStrokes(text, reading);
   const drawnOn = Array.from({ length: 21 }, (item, index) => {
     stepped(page, [drawn(count + 2 + index, 20000 * count + 2 + index, 5, count + 1 + index, "draw", [1, 2, 3, 4])]);
     return page.world().text;
   });
-  const news = drawnOn.map(text => timed(() => objectsOf(text, reading)));
+  const news = drawnOn.map(text => timed(() => readStrokes(text, reading)));
   console.log(`${count} strokes: ${times[0].toFixed(0)} us a frame at first, ${times.at(-1).toFixed(0)} in the fifth run; the world's text ${middle(looks).toFixed(1)} ms, to read it ${middle(reads).toFixed(1)} ms, what a stroke changed ${middle(news).toFixed(1)} ms; digest ${digestOf(text).slice(0, 8)}`);
   page.close();
 }

@@ -57,6 +57,19 @@ const tests = {
     assert.throws(() => before.get(1).fields.list.push(3), TypeError);
     assert.throws(() => { before.get(1).fields.list[0].ref = 3; }, TypeError);
   },
+  "the fields of an object are read once, and are seen as any others": () => {
+    const stroke = objectsOf(REST).get(2);
+    assert.equal(stroke.fields, stroke.fields);
+    assert.deepEqual(Object.keys(stroke), ["ref", "class", "fields"]);
+    assert.deepEqual(JSON.parse(JSON.stringify(stroke)), { ref: 2, class: "Stroke", fields: { view: 7, name: "a b", points: [1, 2] } });
+    assert.throws(() => { stroke.fields = {}; }, TypeError);
+  },
+  "frames that are told together are sent each for itself": async () => {
+    const session = await joined(joins((kind, text) => text === "more" ? { frames: ["one", "two", "three"] } : {}));
+    StandInSocket.all[0].say("more");
+    assert.deepEqual(StandInSocket.all[0].sent, ["join", "one", "two", "three"]);
+    session.shut();
+  },
   "a world is written once after each step": async () => {
     let asked = 0;
     const session = await joined(joins(), REST), { world } = session.page;

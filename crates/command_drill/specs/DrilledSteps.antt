@@ -27,4 +27,5 @@ drilled_line request entries total agree =
 -- of a drill the session is put as it is stored, and the snapshot of each view, from view 1 on, and its line is printed
 abbrev pub drilled_steps : DrillRequest → PlainSession → List (List ℕ) → ℤ → ℕ → List Step
 drilled_steps request session snapshots total agree =
-    steps_of (record { name = request.log; bytes = stored_spelling (stored_of session) } ∷ numbered_puts request.snapshots 1 snapshots) (drilled_line request (length session.log) total agree)
+    steps_of (record { name = request.log; bytes = stored_spelling (stored_of session) }
+    ∷ numbered_puts request.snapshots 1 snapshots) (drilled_line request (length session.log) total agree)

@@ -63,7 +63,11 @@ hub_steps logs lines = let run = hub_run lines in steps_of (hub_puts logs run.hu
 
 -- the session of a line is asked, and replies so
 abbrev pub call_of : PlainHub → HubLine → HubCall
-call_of hub line = record { id = hub_id line.name; request = line.request; reply = Some (hub_answer hub (hub_id line.name) line.request).reply }
+call_of hub line = record {
+  id = hub_id line.name;
+  request = line.request;
+  reply = Some (hub_answer hub (hub_id line.name) line.request).reply;
+}
 
 -- one call for each line, of a hub that has these sessions
 abbrev pub calls_from : PlainHub → List HubLine → List HubCall

@@ -16,7 +16,8 @@ to_session name request = record { name = chars name; request = request }
 -- `in NAME`, and a line of a session's script
 abbrev pub hub_line_of : List LineWord → Option HubLine
 hub_line_of (first ∷ name ∷ words) =
-    if bytes_eq first (codes "in") && nat_le (length name) most_name then option_map (to_session name) (request_of words) else None
+    if bytes_eq first (codes "in")
+    && nat_le (length name) most_name then option_map (to_session name) (request_of words) else None
 hub_line_of words = None
 
 -- the requests of these lines, where each that is not skipped is one

@@ -47,7 +47,8 @@ fn push_reply(
 /// Asks the session of a line, and tells its reply.
 fn ask(alloc: Global, hub: &mut Hub, text: &mut String, line: &HubLine) -> Result<(), WantOfMemory>
     requires { HasName line.now }
-    ensures { OnOk result (record { hub = hub.new; text = string_bytes text.new } ≡ run_line (record { hub = hub.old; text = string_bytes text.old }) line.now) }
+    ensures { OnOk result (record { hub = hub.new; text = string_bytes text.new }
+        ≡ run_line (record { hub = hub.old; text = string_bytes text.old }) line.now) }
 {
     let id = session_id(&line.name, &[], &Value::Nil);
     let reply = hub.call(&id, &line.request)?;

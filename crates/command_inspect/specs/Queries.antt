@@ -46,7 +46,8 @@ then_query (Some query) rest = then_queries (query ∷ []) rest
 -- the queries of these lines, where each that is not skipped is one
 abbrev pub queries_in : List (List ℕ) → Option (List Query)
 queries_in [] = Some []
-queries_in (line ∷ more) = if is_skipped line then queries_in more else then_query (query_of (words_of line)) (queries_in more)
+queries_in (line ∷ more) = if is_skipped line then queries_in more
+    else then_query (query_of (words_of line)) (queries_in more)
 
 -- the queries of a text: UTF-8, in lines
 abbrev pub queries_of : List ℕ → Option (List Query)

@@ -28,7 +28,8 @@ fn world_text(
     world: &PlainWorld,
 ) -> Result<String, WantOfMemory>
     requires { IsValid (world_record world.now) }
-    ensures { IfOk result (λ text. string_bytes text ≡ world_text (program_tree classes.now) query (world_record world.now)) }
+    ensures { IfOk result (λ text. string_bytes text
+        ≡ world_text (program_tree classes.now) query (world_record world.now)) }
 {
     match query {
         Query::At { .. } => line_of(alloc, world),
@@ -44,7 +45,8 @@ fn query_text<L: Ledger>(
     steps: &mut Steps<L>,
 ) -> Result<String, WantOfMemory>
     requires { IsTimed query }
-    ensures { IfOk result (λ text. string_bytes text ≡ query_text (founding_of line.now.program) line.now.id line.now.entries query) }
+    ensures { IfOk result (λ text. string_bytes text
+        ≡ query_text (founding_of line.now.program) line.now.id line.now.entries query) }
 {
     let world = line.at(query.time(), steps)?;
     let plain = plain_of(&world)?;
@@ -55,7 +57,8 @@ fn query_text<L: Ledger>(
 /// runs out of memory. All text is in memory before any of it is printed: a `full` query of a world at its limits takes some
 /// megabytes.
 pub fn inspect(alloc: Global, line: &TimeLine, queries: &Queries) -> Result<String, WantOfMemory>
-    ensures { IfOk result (λ text. string_bytes text ≡ inspect_text (founding_of line.now.program) line.now.id line.now.entries queries.now) }
+    ensures { IfOk result (λ text. string_bytes text
+        ≡ inspect_text (founding_of line.now.program) line.now.id line.now.entries queries.now) }
 {
     inspect_list(alloc, line, queries.list())
 }
@@ -63,7 +66,8 @@ pub fn inspect(alloc: Global, line: &TimeLine, queries: &Queries) -> Result<Stri
 /// The same of a list of queries.
 fn inspect_list(alloc: Global, line: &TimeLine, queries: &[Query]) -> Result<String, WantOfMemory>
     requires { AreTimed queries.now }
-    ensures { IfOk result (λ text. string_bytes text ≡ inspect_text (founding_of line.now.program) line.now.id line.now.entries queries.now) }
+    ensures { IfOk result (λ text. string_bytes text
+        ≡ inspect_text (founding_of line.now.program) line.now.id line.now.entries queries.now) }
 {
     inspect_counted::<Brand>(alloc, line, queries, Blank::new(1))
 }
@@ -79,7 +83,8 @@ fn inspect_counted<L: Ledger>(
     requires name { blank.name ≡ L.name }
     requires parts { blank.parts ≡ L.parts }
     requires some { 0 < blank.parts }
-    ensures { IfOk result (λ text. string_bytes text ≡ inspect_text (founding_of line.now.program) line.now.id line.now.entries queries.now) }
+    ensures { IfOk result (λ text. string_bytes text
+        ≡ inspect_text (founding_of line.now.program) line.now.id line.now.entries queries.now) }
 {
     let mut steps = Steps::<L>::new(blank);
     let mut text = String::new(alloc);

@@ -50,7 +50,8 @@ fn read_line(alloc: Global, line: &str) -> Result<Option<Query>, WantOfMemory>
 /// Reads one line more.
 fn take_line(alloc: Global, line: &str, queries: &mut Vec<Query>) -> Result<(), QueriesFault>
     ensures read { OnOk result ((more : List (List ℕ)) →
-        then_queries queries.new.items (queries_in more) ≡ then_queries queries.old.items (queries_in (line.now ∷ more))) }
+        then_queries queries.new.items (queries_in more)
+        ≡ then_queries queries.old.items (queries_in (line.now ∷ more))) }
     ensures bad { result ≡ Err QueriesFault.Bad → (more : List (List ℕ)) → queries_in (line.now ∷ more) ≡ None }
     ensures timed { OnOk result (AreTimed queries.old.items → AreTimed queries.new.items) }
 {

@@ -14,9 +14,13 @@ abbrev pub optional_put : Option (List ℕ) → List ℕ → List Put
 optional_put None bytes = []
 optional_put (Some name) bytes = record { name = name; bytes = bytes } ∷ []
 
--- bytes under a name that ends in a number
+-- a name that ends in a number
+abbrev pub numbered_name : List ℕ → ℕ → List ℕ
+numbered_name prefix number = prefix ++ decimal number
+
+-- bytes under such a name
 abbrev pub numbered_put : List ℕ → ℕ → List ℕ → Put
-numbered_put prefix number bytes = record { name = prefix ++ decimal number; bytes = bytes }
+numbered_put prefix number bytes = record { name = numbered_name prefix number; bytes = bytes }
 
 -- each of these bytes, under a name that ends in its number, from this one on
 abbrev pub numbered_puts : List ℕ → ℕ → List (List ℕ) → List Put

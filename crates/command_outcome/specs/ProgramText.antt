@@ -14,7 +14,8 @@ method_count tree = sum_by (λ c. length c.methods) tree
 
 -- the line of a program without faults: the numbers of its classes and of its methods
 abbrev pub counts_line : ProgramTree → List ℕ
-counts_line tree = spell_numbers (codes "classes") (length tree ∷ []) ++ spell_numbers (codes " methods") (method_count tree ∷ []) ++ codes "\n"
+counts_line tree = spell_numbers (codes "classes") (length tree ∷ [])
+    ++ spell_numbers (codes " methods") (method_count tree ∷ []) ++ codes "\n"
 
 -- the text is no program from this place on
 abbrev pub syntax_line : ℕ → List ℕ

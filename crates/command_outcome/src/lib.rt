@@ -11,5 +11,7 @@ mod program;
 
 pub use counts::counts_line;
 pub use line::line_of_parts;
-pub use outcome::{CommandRefusal, Input, Outcome, Put, Puts, optional_put, put_numbered};
+pub use outcome::{
+    CommandRefusal, Input, Outcome, Put, Puts, numbered_name, optional_put, put_numbered,
+};
 pub use program::{ProgramFault, read_program};

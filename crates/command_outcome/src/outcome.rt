@@ -1,7 +1,6 @@
 //! What comes of a command: what it puts and prints, or its one refusal.
 ghost use Rattle.std.specs.Prelude.{◌≡◌, ◌++◌, ◌∷◌, [], IfOk, OnOk};
-ghost use Rattle.std.specs.Fmt.{decimal};
-ghost use Rattle.command_outcome.specs.Outcome.{numbered_put, optional_put};
+ghost use Rattle.command_outcome.specs.Outcome.{numbered_name, numbered_put, optional_put};
 
 use std::alloc::Global;
 use std::fmt::Write;
@@ -26,6 +25,8 @@ pub enum Input {
     Every,
     /// The queries of an inspection.
     Queries,
+    /// The configuration of a host, or sessions of it that have one id.
+    Config,
 }
 
 /// Why a command is refused.
@@ -69,8 +70,8 @@ pub fn optional_put(alloc: Global, name: Option<Text>, bytes: Blob) -> Result<Pu
 }
 
 /// A name that ends in a number.
-fn numbered_name(alloc: Global, prefix: &Text, number: u64) -> Result<Text, WantOfMemory>
-    ensures { IfOk result (λ name. name ≡ prefix.now ++ decimal number) }
+pub fn numbered_name(alloc: Global, prefix: &Text, number: u64) -> Result<Text, WantOfMemory>
+    ensures { IfOk result (λ name. name ≡ numbered_name prefix.now number) }
 {
     let mut name = String::from_str(alloc, prefix.as_str())?;
     write!(name, "{number}")?;

@@ -30,7 +30,8 @@ torn_line torn = if all_zero torn then [] else spell_numbers (codes "torn") (len
 
 -- a torn end is put aside, the session is put as it is stored, if there is a name for it, and the torn end is told
 abbrev pub going_on_steps : List ℕ → Option (List ℕ) → PlainStored → List ℕ → List Step
-going_on_steps journal log stored torn = steps_of (torn_puts journal torn ++ optional_put log (stored_spelling stored)) (torn_line torn)
+going_on_steps journal log stored torn =
+    steps_of (torn_puts journal torn ++ optional_put log (stored_spelling stored)) (torn_line torn)
 
 -- where a journal that was read goes on: the session that it tells, the check of its last record, and the bytes after that
 abbrev pub kept_place : GoingOn → Place PlainStored
@@ -40,4 +41,5 @@ kept_place going = record { state = plain_stored going.stored; check = going.che
 pub record GoesOnFrom (keeping : Keeping) (bytes : List ℕ) (going : GoingOn) : Type 0 where
   pub read : read_journal keeping.id.0 bytes ≡ Goes (kept_place going)
   pub good : going.good ≡ length bytes - length going.torn
-  pub steps : steps_of going.outcome.files going.outcome.text ≡ going_on_steps keeping.journal (log_name keeping.log) (plain_stored going.stored) going.torn
+  pub steps : steps_of going.outcome.files going.outcome.text
+      ≡ going_on_steps keeping.journal (log_name keeping.log) (plain_stored going.stored) going.torn

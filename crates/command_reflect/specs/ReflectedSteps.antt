@@ -32,7 +32,8 @@ end_lines number (how ∷ ends) = end_line number how ++ end_lines (number + 1) 
 -- the line of a session: how many entries its log has, and its horizon
 abbrev pub session_line : PlainSession → List ℕ
 session_line session =
-    spell_numbers (codes "entries") (length session.log ∷ []) ++ spell_numbers (codes " time") (session.horizon ∷ []) ++ codes "\n"
+    spell_numbers (codes "entries") (length session.log ∷ []) ++ spell_numbers (codes " time") (session.horizon ∷ [])
+    ++ codes "\n"
 
 -- the text of a session that was reflected: a line for each connection, and then its own
 abbrev pub reflected_text : List Ended → PlainSession → List ℕ

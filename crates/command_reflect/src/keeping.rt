@@ -110,7 +110,8 @@ fn put_log(
     stored: &Stored,
 ) -> Result<(), WantOfMemory>
     requires { IsStored (plain_stored stored.now) }
-    ensures { OnOk result (files.new ≡ files.old ++ optional_put (log_name (option_copied log.entry)) (stored_spelling (plain_stored stored.now))) }
+    ensures { OnOk result (files.new
+        ≡ files.old ++ optional_put (log_name (option_copied log.entry)) (stored_spelling (plain_stored stored.now))) }
 {
     let Some(log) = log else {
         return Ok(());
@@ -140,7 +141,8 @@ fn outcome_of(
     torn: &[u8],
 ) -> Result<Outcome, WantOfMemory>
     requires { IsStored (plain_stored stored.now) }
-    ensures { IfOk result (λ outcome. steps_of outcome.files outcome.text ≡ going_on_steps keeping.now.journal (log_name keeping.now.log) (plain_stored stored.now) torn.now) }
+    ensures { IfOk result (λ outcome. steps_of outcome.files outcome.text
+        ≡ going_on_steps keeping.now.journal (log_name keeping.now.log) (plain_stored stored.now) torn.now) }
 {
     let mut files = Puts::new(alloc);
     put_torn(alloc, &mut files, &keeping.journal, torn)?;
@@ -158,7 +160,8 @@ fn going_on(alloc: Global, keeping: &Keeping, read: Read<'_>) -> Result<GoingOn,
     ensures place { IfOk result (λ going. kept_place going ≡ read_place read.entry) }
     ensures good { IfOk result (λ going. going.good ≡ read.entry.good) }
     ensures steps { IfOk result (λ going. steps_of going.outcome.files going.outcome.text
-        ≡ going_on_steps keeping.now.journal (log_name keeping.now.log) (plain_stored read.entry.stored) read.entry.torn.now) }
+        ≡ going_on_steps keeping.now.journal (log_name keeping.now.log)
+        (plain_stored read.entry.stored) read.entry.torn.now) }
 {
     let Read {
         stored,
@@ -183,12 +186,7 @@ pub fn read_kept(alloc: Global, keeping: &Keeping, bytes: &[u8]) -> Result<Going
     ensures none { result ≡ Err JournalFault.NoJournal → read_journal keeping.now.id.0 bytes.now ≡ NoJournal }
     ensures other { result ≡ Err JournalFault.OtherSession → read_journal keeping.now.id.0 bytes.now ≡ OtherSession }
 {
-    what_is_read_may_be_opened();
-    match read_journal(alloc, &keeping.id, bytes) {
-        Ok(read) => match going_on(alloc, keeping, read) {
-            Ok(going) => Ok(going),
-            Err(WantOfMemory) => Err(JournalFault::WantOfMemory),
-        },
-        Err(fault) => Err(fault),
-    }
+    what_is_read_may_be_opened(); // for the prover
+    let read = read_journal(alloc, &keeping.id, bytes)?;
+    Ok(going_on(alloc, keeping, read)?)
 }

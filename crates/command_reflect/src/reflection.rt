@@ -68,7 +68,8 @@ pub fn reflected_outcome(
     ends: &[Ended],
     session: &Session,
 ) -> Result<Outcome, WantOfMemory>
-    ensures { IfOk result (λ outcome. steps_of outcome.files outcome.text ≡ Prints (reflected_text ends.now session.now.plain) ∷ []) }
+    ensures { IfOk result (λ outcome. steps_of outcome.files outcome.text
+        ≡ Prints (reflected_text ends.now session.now.plain) ∷ []) }
 {
     let text = reflected_text(alloc, ends, session)?;
     Ok(Outcome {

@@ -86,11 +86,12 @@ fn go_on(world: &mut World, log: &Log, time: u64) -> Result<(), WantOfMemory>
     requires bound { time < time_limit }
     ensures goes { OnOk result (world.new ≡ record (world.old) {
       scene =
-          replay_from (checked_tree world.old.program) time (entries_behind world.old.scene.world.time log.now.entries) world.old.scene;
+          replay_from (checked_tree world.old.program) time
+          (entries_behind world.old.scene.world.time log.now.entries) world.old.scene;
     }) }
     ensures legal { OnOk result (IsLegal log.now.entries) }
 {
-    for place in log.after_time(world.time())..log.len() {
+    for place in log.count_until(world.time())..log.len() {
         let seq = place + 1;
         if log.time_of(seq) <= time {
             let entry = entry_of(log, seq)?;
@@ -139,9 +140,11 @@ fn arrive(
     time: u64,
 ) -> Result<PlainWorld, WantOfMemory>
     requires time { time < time_limit }
-    requires valid { IfSome start (λ world. Valid (field_counts (checked_tree recording.program)) (world_record world)) }
+    requires valid { IfSome start (λ world.
+        Valid (field_counts (checked_tree recording.program)) (world_record world)) }
     requires early { IfSome start (λ world. world.time ≤ time) }
-    ensures world { IfOk result (λ plain. world_record plain ≡ world_at recording time (option_map world_record start)) }
+    ensures world { IfOk result (λ plain. world_record plain
+        ≡ world_at recording time (option_map world_record start)) }
     ensures valid { IfOk result (λ plain. IsValid (world_record plain)) }
 {
     let Recording { program, id, log } = recording;
@@ -173,7 +176,8 @@ pub fn tell_replay(
     time: u64,
 ) -> Result<Told, WantOfMemory>
     requires time { time < time_limit }
-    requires valid { IfSome start (λ world. Valid (field_counts (checked_tree recording.program)) (world_record world)) }
+    requires valid { IfSome start (λ world.
+        Valid (field_counts (checked_tree recording.program)) (world_record world)) }
     requires early { IfSome start (λ world. world.time ≤ time) }
     ensures { IfOk result (λ told. TellsWorld told (world_at recording time (option_map world_record start))) }
 {

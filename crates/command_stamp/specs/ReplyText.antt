@@ -33,7 +33,8 @@ refusal_part (NoSuchSeq len) = spell_numbers (codes " no-such-seq") (len ∷ [])
 
 -- what a reply says: one row for each
 abbrev pub said_of : Reply → List ℕ
-said_of (Joined seq time last from base) = spell_numbers (codes "joined") (seq ∷ time ∷ last ∷ from ∷ []) ++ base_part base
+said_of (Joined seq time last from base) =
+    spell_numbers (codes "joined") (seq ∷ time ∷ last ∷ from ∷ []) ++ base_part base
 said_of (Stamped seq time) = spell_numbers (codes "stamped") (seq ∷ time ∷ [])
 said_of (Again seq time) = spell_numbers (codes "again") (seq ∷ time ∷ [])
 said_of (Ticked time) = spell_numbers (codes "ticked") (time ∷ [])

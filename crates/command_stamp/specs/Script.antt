@@ -56,7 +56,8 @@ send_with view joined number now payload = None
 
 -- `VIEW JOINED NUMBER NOW HEX`
 abbrev pub send_of : List LineWord → Option Request
-send_of (view ∷ joined ∷ number ∷ now ∷ payload ∷ []) = send_with (small_of view) (small_of joined) (small_of number) (large_of now) (hex_of payload)
+send_of (view ∷ joined ∷ number ∷ now ∷ payload ∷ []) =
+    send_with (small_of view) (small_of joined) (small_of number) (large_of now) (hex_of payload)
 send_of words = None
 
 -- `NOW`
@@ -79,7 +80,8 @@ offer_with view joined time snapshot = None
 
 -- `VIEW JOINED TIME HEX`
 abbrev pub offer_of : List LineWord → Option Request
-offer_of (view ∷ joined ∷ time ∷ snapshot ∷ []) = offer_with (small_of view) (small_of joined) (time_of_word time) (hex_of snapshot)
+offer_of (view ∷ joined ∷ time ∷ snapshot ∷ []) =
+    offer_with (small_of view) (small_of joined) (time_of_word time) (hex_of snapshot)
 offer_of words = None
 
 abbrev pub pull_with : Option ℕ → Option ℕ → Option Request
@@ -108,7 +110,8 @@ abbrev pub requests_of : List (List ℕ) → Option (List Request)
 requests_of [] = Some []
 requests_of (line ∷ more) =
     if is_skipped line then requests_of more
-    else option_and_then (λ request. option_map (λ rest. request ∷ rest) (requests_of more)) (request_of (words_of line))
+    else option_and_then (λ request. option_map (λ rest. request ∷ rest) (requests_of more))
+    (request_of (words_of line))
 
 -- the requests of a script: UTF-8, in lines
 abbrev pub script_of : List ℕ → Option (List Request)

@@ -28,7 +28,8 @@ pub record Step : Type 0 where
 -- a turn, if a message runs next
 abbrev pub turn_steps : ProgramTree → ℕ → Option PlainRan → Scene → List Step
 turn_steps program t None s = []
-turn_steps program t (Some ran) s = record { ran = OfMessage ran; before = s.world; after = (after_turn program t s).world } ∷ []
+turn_steps program t (Some ran) s =
+    record { ran = OfMessage ran; before = s.world; after = (after_turn program t s).world } ∷ []
 
 -- a turn, and then more; where no message runs next there are none
 abbrev pub then_turns : ProgramTree → ℕ → (Scene → List Step) → Option PlainRan → Scene → List Step
@@ -49,19 +50,26 @@ turns_until program t s = turns_within program (enough t s.world) t s
 abbrev pub entry_steps : ProgramTree → Entry → Scene → List Step
 entry_steps program e s =
     let before = (advance program e.time s).world in
-    turns_until program e.time s ++ record { ran = OfEntry e (heard_of before e.view e.what); before = before; after = (external program e s).world } ∷ []
+    turns_until program e.time s ++ record {
+      ran = OfEntry e (heard_of before e.view e.what);
+      before = before;
+      after = (external program e s).world;
+    } ∷ []
 
 -- the entries with a time of at most t, and then the messages that are due up to it
 abbrev pub steps_on : ProgramTree → ℕ → List Entry → Scene → List Step
 steps_on program t [] s = turns_until program t s
-steps_on program t (e ∷ es) s = if nat_le e.time t then entry_steps program e s ++ steps_on program t es (external program e s) else steps_on program t es s
+steps_on program t (e ∷ es) s =
+    if nat_le e.time t then entry_steps program e s ++ steps_on program t es (external program e s)
+    else steps_on program t es s
 
 -- ---- a session
 
 -- the message with which it begins, if there is one
 abbrev pub first_step : Founding → List ℕ → Option PlainRan → List Step
 first_step founding id None = []
-first_step founding id (Some ran) = record { ran = OfMessage ran; before = (begun founding id).world; after = (first_scene founding id).world } ∷ []
+first_step founding id (Some ran) =
+    record { ran = OfMessage ran; before = (begun founding id).world; after = (first_scene founding id).world } ∷ []
 
 abbrev pub first_steps : Founding → List ℕ → List Step
 first_steps founding id = first_step founding id (first_ran founding)

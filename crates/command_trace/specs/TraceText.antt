@@ -29,7 +29,8 @@ class_word program (Some class) = class_name (slice_get program class)
 -- `message TIME OBJECT CLASS METHOD ARGS`
 abbrev pub message_line : ProgramTree → PlainRan → List ℕ
 message_line program ran =
-    codes "message" ++ spaced (decimal ran.time) ++ spaced (decimal ran.object) ++ class_word program ran.class ++ spaced (method_text ran.method)
+    codes "message" ++ spaced (decimal ran.time) ++ spaced (decimal ran.object) ++ class_word program ran.class
+    ++ spaced (method_text ran.method)
     ++ spaced (arguments_text ran.args) ++ codes "\n"
 
 -- ---- an entry
@@ -42,12 +43,14 @@ entry_word (Event number payload) = codes "event"
 -- `SCOPE EVENT heard COUNT`, or `heard 0` where models heard no event
 abbrev pub heard_part : Option HeardEvent → List ℕ
 heard_part None = spaced (codes "heard") ++ spaced (decimal 0)
-heard_part (Some heard) = spaced (spelled_text heard.scope) ++ spaced (spelled_text heard.event) ++ spaced (codes "heard") ++ spaced (decimal heard.handlers)
+heard_part (Some heard) = spaced (spelled_text heard.scope) ++ spaced (spelled_text heard.event)
+    ++ spaced (codes "heard") ++ spaced (decimal heard.handlers)
 
 -- `entry SEQ time TIME view VIEW KIND`, and that
 abbrev pub entry_line : Entry → Option HeardEvent → List ℕ
 entry_line entry heard =
-    codes "entry" ++ spaced (decimal entry.seq) ++ spaced (codes "time") ++ spaced (decimal entry.time) ++ spaced (codes "view") ++ spaced (decimal entry.view)
+    codes "entry" ++ spaced (decimal entry.seq) ++ spaced (codes "time") ++ spaced (decimal entry.time)
+    ++ spaced (codes "view") ++ spaced (decimal entry.view)
     ++ spaced (entry_word entry.what) ++ heard_part heard ++ codes "\n"
 
 -- ---- faults
@@ -61,7 +64,8 @@ raised_line kind before after = if nat_lt before after then fault_line kind else
 
 -- each kind of fault whose count rose, by the kind of its place; one message raises at most one
 abbrev pub raised_lines : List LineWord → List ℕ → List ℕ → List ℕ
-raised_lines (kind ∷ kinds) (before ∷ befores) (after ∷ afters) = raised_line kind before after ++ raised_lines kinds befores afters
+raised_lines (kind ∷ kinds) (before ∷ befores) (after ∷ afters) =
+    raised_line kind before after ++ raised_lines kinds befores afters
 raised_lines kinds befores afters = []
 
 -- ---- what ran

@@ -11,7 +11,11 @@ ghost use Rattle.command_trace.specs.Steps.{AreChained, entries_in, left_by, ste
 /// of the log up to the time. The world that the last of them left, once it has come to the time, is that of the replay: so no message that a
 /// replay runs is left out.
 pub fn steps_replay()
-    ensures chained { (founding : Founding) (id : List ℕ) (entries : List Entry) (t : ℕ) → IsFounding founding → IsLegal entries → AreChained (begun founding id).world (steps founding id entries t) }
-    ensures entries { (founding : Founding) (id : List ℕ) (entries : List Entry) (t : ℕ) → entries_in (steps founding id entries t) ≡ filter (λ (e : Entry). nat_le e.time t) entries }
-    ensures replays { (founding : Founding) (id : List ℕ) (entries : List Entry) (t : ℕ) → IsFounding founding → IsLegal entries → at_later_time t (left_by (begun founding id).world (steps founding id entries t)) ≡ (replay founding id entries t).world }
+    ensures chained { (founding : Founding) (id : List ℕ) (entries : List Entry) (t : ℕ) → IsFounding founding
+        → IsLegal entries → AreChained (begun founding id).world (steps founding id entries t) }
+    ensures entries { (founding : Founding) (id : List ℕ) (entries : List Entry) (t : ℕ)
+        → entries_in (steps founding id entries t) ≡ filter (λ (e : Entry). nat_le e.time t) entries }
+    ensures replays { (founding : Founding) (id : List ℕ) (entries : List Entry) (t : ℕ) → IsFounding founding
+        → IsLegal entries → at_later_time t (left_by (begun founding id).world (steps founding id entries t))
+        ≡ (replay founding id entries t).world }
 {}

@@ -11,7 +11,8 @@ use world_lines::{fault_word, push_arguments, push_literal, push_method, push_nu
 
 /// Appends the name of a class.
 fn push_class(text: &mut String, classes: &[Class], class: u16) -> Result<(), WantOfMemory>
-    ensures { OnOk result (string_bytes text.new ≡ string_bytes text.old ++ class_word (program_tree classes.now) (Some class)) }
+    ensures { OnOk result (string_bytes text.new
+        ≡ string_bytes text.old ++ class_word (program_tree classes.now) (Some class)) }
 {
     let Some(named) = classes.get(usize::from(class)) else {
         return Ok(());
@@ -25,7 +26,8 @@ pub fn push_message(
     classes: &[Class],
     ran: &RanMessage,
 ) -> Result<(), WantOfMemory>
-    ensures { OnOk result (string_bytes text.new ≡ string_bytes text.old ++ message_line (program_tree classes.now) (plain_ran ran.now)) }
+    ensures { OnOk result (string_bytes text.new
+        ≡ string_bytes text.old ++ message_line (program_tree classes.now) (plain_ran ran.now)) }
 {
     text.push_str("message")?;
     push_number(text, ran.time)?;
@@ -105,7 +107,8 @@ pub fn push_raised(
     before: &[u64; 14],
     after: &[u64; 14],
 ) -> Result<(), WantOfMemory>
-    ensures { OnOk result (string_bytes text.new ≡ string_bytes text.old ++ raised_lines fault_words before.now after.now) }
+    ensures { OnOk result (string_bytes text.new
+        ≡ string_bytes text.old ++ raised_lines fault_words before.now after.now) }
 {
     for place in 0..14 {
         push_fault(text, fault_word(place), before[place], after[place])?;

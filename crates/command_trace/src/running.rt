@@ -50,7 +50,9 @@ pub fn enter(world: &mut World, entry: &Entry) -> Result<Option<HeardEvent>, Wan
       scene = entered_by (checked_tree world.old.program) entry.now world.old.scene;
     }) }
     ensures arrives { OnOk result (world.new.scene.world.time ≡ entry.now.time) }
-    ensures told { IfOk result (λ heard. heard ≡ heard_of (advanced (checked_tree world.old.program) entry.now.time world.old.scene).world entry.now.view entry.now.what) }
+    ensures told { IfOk result (λ heard. heard
+        ≡ heard_of (advanced (checked_tree world.old.program) entry.now.time world.old.scene).world entry.now.view
+        entry.now.what) }
 {
     match world.enter(entry) {
         Ok(heard) => Ok(heard),

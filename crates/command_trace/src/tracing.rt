@@ -35,7 +35,8 @@ fn tell_turn(
       scene = after_turn (checked_tree world.old.program) until world.old.scene;
     }) }
     ensures ran { IfOk result (λ ran. ran ≡ is_some (next_ran until world.old.scene.world)) }
-    ensures told { OnOk result (string_bytes text.new ≡ string_bytes text.old ++ steps_text (program_tree classes.now) from
+    ensures told { OnOk result (string_bytes text.new
+        ≡ string_bytes text.old ++ steps_text (program_tree classes.now) from
         (turn_steps (checked_tree world.old.program) until (next_ran until world.old.scene.world) world.old.scene)) }
 {
     let before = world.faults();
@@ -58,10 +59,12 @@ fn tell_turns(
     text: &mut String,
 ) -> Result<(), WantOfMemory>
     requires { world.old.broken ≡ false }
-    ensures told { OnOk result (string_bytes text.new ≡ string_bytes text.old ++ steps_text (program_tree classes.now) from
+    ensures told { OnOk result (string_bytes text.new
+        ≡ string_bytes text.old ++ steps_text (program_tree classes.now) from
         (turns_until (checked_tree world.old.program) until world.old.scene)) }
     ensures rests { OnOk result (next_ran until world.new.scene.world ≡ None) }
-    ensures goes_on { OnOk result (advanced (checked_tree world.old.program) until world.new.scene ≡ advanced (checked_tree world.old.program) until world.old.scene) }
+    ensures goes_on { OnOk result (advanced (checked_tree world.old.program) until world.new.scene
+        ≡ advanced (checked_tree world.old.program) until world.old.scene) }
     ensures early { OnOk result (world.old.scene.world.time ≤ until → world.new.scene.world.time ≤ until) }
     ensures kept { OnOk result ((world.new.program ≡ world.old.program) × (world.new.broken ≡ false)) }
 {
@@ -84,7 +87,8 @@ fn tell_entry(
       scene = entered_by (checked_tree world.old.program) entry.now world.old.scene;
     }) }
     ensures arrives { OnOk result (world.new.scene.world.time ≡ entry.now.time) }
-    ensures told { OnOk result (string_bytes text.new ≡ string_bytes text.old ++ steps_text (program_tree classes.now) from
+    ensures told { OnOk result (string_bytes text.new
+        ≡ string_bytes text.old ++ steps_text (program_tree classes.now) from
         (entry_steps (checked_tree world.old.program) entry.now world.old.scene)) }
 {
     tell_turns(world, classes, from, entry.time, text)?;
@@ -108,7 +112,8 @@ fn tell_log(
     requires whole { world.old.broken ≡ false }
     requires begins { world.old.scene.world.time ≡ 0 }
     requires bound { stretch.to < time_limit }
-    ensures { OnOk result (string_bytes text.new ≡ string_bytes text.old ++ steps_text (program_tree classes.now) stretch.from
+    ensures { OnOk result (string_bytes text.new
+        ≡ string_bytes text.old ++ steps_text (program_tree classes.now) stretch.from
         (steps_on (checked_tree world.old.program) stretch.to log.now.entries world.old.scene)) }
 {
     for place in 0..log.len() {
@@ -129,7 +134,8 @@ fn tell_first(
     text: &mut String,
 ) -> Result<(), WantOfMemory>
     ensures { OnOk result ((id : List ℕ) → world.now.scene ≡ first_scene (founding_of program.now) id →
-        string_bytes text.new ≡ string_bytes text.old ++ steps_text (checked_tree program.now) from (first_steps (founding_of program.now) id)) }
+        string_bytes text.new ≡ string_bytes text.old
+        ++ steps_text (checked_tree program.now) from (first_steps (founding_of program.now) id)) }
 {
     let Some(ran) = World::first_message(alloc, program)? else {
         return Ok(());
@@ -151,7 +157,8 @@ pub fn trace(
     stretch: Stretch,
 ) -> Result<String, WantOfMemory>
     requires { stretch.to < time_limit }
-    ensures { IfOk result (λ text. string_bytes text ≡ trace_text (founding_of (arc_value program)) id.0 log.now.entries stretch.from stretch.to) }
+    ensures { IfOk result (λ text. string_bytes text
+        ≡ trace_text (founding_of (arc_value program)) id.0 log.now.entries stretch.from stretch.to) }
 {
     let mut text = String::new(alloc);
     let mut world = World::first(alloc, program.clone()?, id)?;

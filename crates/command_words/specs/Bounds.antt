@@ -8,16 +8,18 @@ use Rattle.command_words.specs.declared.words.TraceRequest.{TraceRequest}
 use Rattle.command_words.specs.declared.words.JoinRequest.{JoinRequest}
 use Rattle.command_words.specs.declared.words.LiveRequest.{LiveRequest}
 use Rattle.command_words.specs.declared.words.ReflectRequest.{ReflectRequest}
+use Rattle.command_words.specs.declared.words.HostRequest.{HostRequest}
 use Rattle.command_words.specs.declared.words.DrillRequest.{DrillRequest}
 use Rattle.command_words.specs.declared.words.Command.{Command}
-use Rattle.command_words.specs.declared.words.Command.TheVariants.{Stamp, Check, Replay, Inspect, Trace, Votes, Hub, Join, Live, Reflect, Drill}
+use Rattle.command_words.specs.declared.words.Command.TheVariants.{Stamp, Check, Replay, Inspect, Trace, Votes, Hub, Join, Live, Reflect, Host, Drill}
 use Rattle.command_words.specs.CommandWords.{most_name}
 
--- the words ask for a command that uses a net: join or reflect
+-- the words ask for a command that uses a net: join, reflect or host
 abbrev pub UsesNet : Option Command → Type 0
 UsesNet (Some (Join request)) = ⊤
 UsesNet (Some (Live request)) = ⊤
 UsesNet (Some (Reflect request)) = ⊤
+UsesNet (Some (Host request)) = ⊤
 UsesNet command = ⊥
 
 -- a replay has a name of at most so many bytes, and a time below the limit of times
@@ -48,6 +50,10 @@ AreConnections count = (1 ≤ count) × (count ≤ most_connections)
 abbrev pub IsBoundedReflect : ReflectRequest → Type 0
 IsBoundedReflect request = (length (encode_utf8_all request.name) ≤ most_name) × AreConnections request.connections
 
+-- a host has so many connections
+abbrev pub IsBoundedHost : HostRequest → Type 0
+IsBoundedHost request = AreConnections request.connections
+
 -- from 1 to the most views
 abbrev pub AreViews : ℕ → Type 0
 AreViews count = (1 ≤ count) × (count ≤ most_drill_views)
@@ -67,4 +73,5 @@ IsWithinBounds (Hub script logs) = ⊤
 IsWithinBounds (Join request) = IsBoundedJoin request
 IsWithinBounds (Live request) = IsBoundedLive request
 IsWithinBounds (Reflect request) = IsBoundedReflect request
+IsWithinBounds (Host request) = IsBoundedHost request
 IsWithinBounds (Drill request) = IsBoundedDrill request

@@ -9,9 +9,8 @@ use Rattle.command_words.specs.declared.words.TraceRequest.{TraceRequest}
 use Rattle.command_words.specs.declared.words.JoinRequest.{JoinRequest}
 use Rattle.command_words.specs.declared.words.LiveRequest.{LiveRequest}
 use Rattle.command_words.specs.declared.words.ReflectRequest.{ReflectRequest}
-use Rattle.command_words.specs.declared.words.DrillRequest.{DrillRequest}
 use Rattle.command_words.specs.declared.words.Command.{Command}
-use Rattle.command_words.specs.declared.words.Command.TheVariants.{Stamp, Check, Replay, Inspect, Trace, Votes, Hub, Join, Live, Reflect, Drill}
+use Rattle.command_words.specs.declared.words.Command.TheVariants.{Stamp, Check, Replay, Inspect, Trace, Votes, Hub, Join, Live, Reflect, Host, Drill}
 use Rattle.command_words.specs.Parts.{Parts, all_parts, are_all_taken, behind_first, without_option, first_positional, has_dash, value_of}
 
 -- ---- what one word may be
@@ -46,11 +45,13 @@ Reading = Parts → Option Command
 
 -- the next positional, which is such a word, and then the rest of the row
 abbrev pub positional : {A : Type 0} → (LineWord → Option A) → (A → Reading) → Reading
-positional such rest parts = option_and_then (λ found. rest found (behind_first parts)) (option_and_then such (first_positional parts))
+positional such rest parts = option_and_then (λ found. rest found (behind_first parts))
+    (option_and_then such (first_positional parts))
 
 -- an option that stands once, whose value is such a word
 abbrev pub needed : {A : Type 0} → LineWord → (LineWord → Option A) → (A → Reading) → Reading
-needed option such rest parts = option_and_then (λ found. rest found (without_option option parts)) (option_and_then such (value_of option parts))
+needed option such rest parts =
+    option_and_then (λ found. rest found (without_option option parts)) (option_and_then such (value_of option parts))
 
 -- an option that stands at most once
 abbrev pub free : LineWord → (Option LineWord → Reading) → Reading
@@ -68,7 +69,11 @@ Row = LineWord × Reading
 
 -- `stamp SCRIPT [--from LOG] [--log FILE]`
 abbrev pub stamp_row : Row
-stamp_row = (codes "stamp", positional a_word (λ script. free (codes "--from") (λ from. free (codes "--log") (λ log. asks (Stamp script from log)))))
+stamp_row = (
+  codes "stamp",
+  positional a_word (λ script.
+      free (codes "--from") (λ from. free (codes "--log") (λ log. asks (Stamp script from log)))),
+)
 
 -- `check PROGRAM`
 abbrev pub check_row : Row
@@ -77,39 +82,66 @@ check_row = (codes "check", positional a_word (λ program. asks (Check program))
 -- `[--snapshot FILE] [--saved FILE]`
 abbrev pub replay_puts : ReplayRequest → Reading
 replay_puts request =
-    free (codes "--snapshot") (λ snapshot. free (codes "--saved") (λ saved. asks (Replay (record request { snapshot = snapshot; saved = saved }))))
+    free (codes "--snapshot") (λ snapshot.
+    free (codes "--saved") (λ saved. asks (Replay (record request { snapshot = snapshot; saved = saved }))))
 
 -- `[--persisted JSON] [--from SNAP]`, and where it puts what
 abbrev pub replay_options : LineWord → LineWord → LineWord → ℕ → Reading
 replay_options program name log time =
     free (codes "--persisted") (λ persisted. free (codes "--from") (λ from.
-    replay_puts (record { program = program; name = name; log = log; time = time; persisted = persisted; from = from; snapshot = None; saved = None })))
+    replay_puts (record {
+      program = program;
+      name = name;
+      log = log;
+      time = time;
+      persisted = persisted;
+      from = from;
+      snapshot = None;
+      saved = None;
+    })))
 
 -- `replay PROGRAM NAME LOG TIME`, and its options
 abbrev pub replay_row : Row
-replay_row = (codes "replay", positional a_word (λ program. positional a_name (λ name. positional a_word (λ log. positional a_time (λ time. replay_options program name log time)))))
+replay_row = (
+  codes "replay",
+  positional a_word (λ program.
+      positional a_name (λ name. positional a_word (λ log.
+      positional a_time (λ time. replay_options program name log time)))),
+)
 
 -- `[--persisted JSON]`
 abbrev pub inspect_options : InspectRequest → Reading
-inspect_options request = free (codes "--persisted") (λ persisted. asks (Inspect (record request { persisted = persisted })))
+inspect_options request = free (codes "--persisted") (λ persisted.
+    asks (Inspect (record request { persisted = persisted })))
 
 -- `inspect PROGRAM NAME LOG EVERY QUERIES`, and its option
 abbrev pub inspect_row : Row
 inspect_row = (
   codes "inspect",
-  positional a_word (λ program. positional a_name (λ name. positional a_word (λ log. positional (a_number 1 most_every) (λ every. positional a_word (λ queries.
-      inspect_options (record { program = program; name = name; log = log; every = every; queries = queries; persisted = None })))))),
+  positional a_word (λ program.
+      positional a_name (λ name. positional a_word (λ log.
+      positional (a_number 1 most_every) (λ every. positional a_word (λ queries.
+      inspect_options (record {
+        program = program;
+        name = name;
+        log = log;
+        every = every;
+        queries = queries;
+        persisted = None;
+      })))))),
 )
 
 -- `[--persisted JSON]`
 abbrev pub trace_options : TraceRequest → Reading
-trace_options request = free (codes "--persisted") (λ persisted. asks (Trace (record request { persisted = persisted })))
+trace_options request = free (codes "--persisted") (λ persisted.
+    asks (Trace (record request { persisted = persisted })))
 
 -- `trace PROGRAM NAME LOG FROM TO`, and its option
 abbrev pub trace_row : Row
 trace_row = (
   codes "trace",
-  positional a_word (λ program. positional a_name (λ name. positional a_word (λ log. positional a_time (λ from. positional a_time (λ to.
+  positional a_word (λ program.
+      positional a_name (λ name. positional a_word (λ log. positional a_time (λ from. positional a_time (λ to.
       trace_options (record { program = program; name = name; log = log; from = from; to = to; persisted = None })))))),
 )
 
@@ -128,14 +160,24 @@ dash_or dashed other parts = if has_dash parts then dashed (behind_first parts) 
 -- SCRIPT, or `-` for lines that come to the run, and the option
 abbrev pub join_ends : LineWord → LineWord → LineWord → ℕ → Reading
 join_ends program name address view =
-    dash_or (live_options (record { program = program; name = name; address = address; view = view; persisted = None })) (positional a_word (λ script.
-    join_options (record { program = program; name = name; address = address; view = view; script = script; persisted = None })))
+    dash_or (live_options (record { program = program; name = name; address = address; view = view; persisted = None }))
+    (positional a_word (λ script.
+    join_options (record {
+      program = program;
+      name = name;
+      address = address;
+      view = view;
+      script = script;
+      persisted = None;
+    })))
 
 -- `join PROGRAM NAME ADDRESS VIEW`, and what it does
 abbrev pub join_row : Row
 join_row = (
   codes "join",
-  positional a_word (λ program. positional a_name (λ name. positional a_word (λ address. positional (a_number 1 4294967295) (λ view. join_ends program name address view)))),
+  positional a_word (λ program.
+      positional a_name (λ name. positional a_word (λ address.
+      positional (a_number 1 4294967295) (λ view. join_ends program name address view)))),
 )
 
 -- a journal or a log is named, or both are
@@ -149,28 +191,54 @@ asks_reflect request parts = if writes_file request then asks (Reflect request) 
 -- `[--journal FILE] [--log FILE]`, one of them at least
 abbrev pub reflect_files : ReflectRequest → Reading
 reflect_files request =
-    free (codes "--journal") (λ journal. free (codes "--log") (λ log. asks_reflect (record request { journal = journal; log = log })))
+    free (codes "--journal") (λ journal.
+    free (codes "--log") (λ log. asks_reflect (record request { journal = journal; log = log })))
 
 -- `[--persisted JSON] [--from LOG]`
 abbrev pub reflect_options : ReflectRequest → Reading
 reflect_options request =
-    free (codes "--persisted") (λ persisted. free (codes "--from") (λ from. reflect_files (record request { persisted = persisted; from = from })))
+    free (codes "--persisted") (λ persisted.
+    free (codes "--from") (λ from. reflect_files (record request { persisted = persisted; from = from })))
 
 -- `--connections N`, and what else may be said
 abbrev pub reflect_ends : LineWord → LineWord → LineWord → Reading
 reflect_ends program name address =
     needed (codes "--connections") (a_number 1 most_connections) (λ connections.
-    reflect_options (record { program = program; name = name; address = address; persisted = None; from = None; connections = connections; journal = None; log = None }))
+    reflect_options (record {
+      program = program;
+      name = name;
+      address = address;
+      persisted = None;
+      from = None;
+      connections = connections;
+      journal = None;
+      log = None;
+    }))
 
 -- `reflect PROGRAM NAME ADDRESS`, and its options
 abbrev pub reflect_row : Row
-reflect_row = (codes "reflect", positional a_word (λ program. positional a_name (λ name. positional a_word (λ address. reflect_ends program name address))))
+reflect_row = (
+  codes "reflect",
+  positional a_word (λ program.
+      positional a_name (λ name. positional a_word (λ address. reflect_ends program name address))),
+)
+
+-- `host CONFIG ADDRESS --connections N --logs PREFIX`
+abbrev pub host_row : Row
+host_row = (
+  codes "host",
+  positional a_word (λ config.
+      positional a_word (λ address. needed (codes "--connections") (a_number 1 most_connections) (λ connections.
+      needed (codes "--logs") a_word (λ logs.
+      asks (Host (record { config = config; address = address; connections = connections; logs = logs })))))),
+)
 
 -- `drill SEED VIEWS EVENTS --log FILE --snapshots PREFIX`
 abbrev pub drill_row : Row
 drill_row = (
   codes "drill",
-  positional (a_number 0 4294967295) (λ seed. positional (a_number 1 most_drill_views) (λ views. positional (a_number 0 most_drill_events) (λ events.
+  positional (a_number 0 4294967295) (λ seed.
+      positional (a_number 1 most_drill_views) (λ views. positional (a_number 0 most_drill_events) (λ events.
       needed (codes "--log") a_word (λ log. needed (codes "--snapshots") a_word (λ snapshots.
       asks (Drill (record { seed = seed; views = views; events = events; log = log; snapshots = snapshots }))))))),
 )
@@ -184,7 +252,8 @@ abbrev pub hub_row : Row
 hub_row = (codes "hub", positional a_word (λ script. free (codes "--logs") (λ logs. asks (Hub script logs))))
 
 abbrev pub rows : List Row
-rows = stamp_row ∷ check_row ∷ replay_row ∷ inspect_row ∷ trace_row ∷ votes_row ∷ hub_row ∷ join_row ∷ reflect_row ∷ drill_row ∷ []
+rows = stamp_row ∷ check_row ∷ replay_row ∷ inspect_row ∷ trace_row ∷ votes_row ∷ hub_row ∷ join_row ∷ reflect_row
+    ∷ host_row ∷ drill_row ∷ []
 
 -- what the row of this name makes of the parts
 abbrev pub read_by : List Row → LineWord → Reading

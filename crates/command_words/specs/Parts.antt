@@ -24,7 +24,8 @@ opens_option word = if is_dash word then false else is_option word
 -- these positionals and settings, and then those
 abbrev pub with_parts : Parts → Option Parts → Option Parts
 with_parts front None = None
-with_parts front (Some parts) = Some (record { positionals = front.positionals ++ parts.positionals; settings = front.settings ++ parts.settings })
+with_parts front (Some parts) =
+    Some (record { positionals = front.positionals ++ parts.positionals; settings = front.settings ++ parts.settings })
 
 abbrev pub no_parts : Parts
 no_parts = record { positionals = []; settings = [] }
@@ -60,7 +61,8 @@ sets_option option found = bytes_eq found.option option
 -- the value of the first setting of an option
 abbrev pub setting_value : LineWord → List Setting → Option LineWord
 setting_value option [] = None
-setting_value option (found ∷ settings) = if sets_option option found then Some found.value else setting_value option settings
+setting_value option (found ∷ settings) =
+    if sets_option option found then Some found.value else setting_value option settings
 
 -- the settings without the first one of an option
 abbrev pub without : LineWord → List Setting → List Setting

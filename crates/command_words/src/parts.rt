@@ -121,7 +121,8 @@ impl Reader {
     #[tactic(auto, using(crate::proofs::PartsLaws::reads_setting, crate::proofs::PartsLaws::reads_positional))]
     fn take(&mut self, word: &Text) -> Result<bool, WantOfMemory>
         ensures { IfOk result (λ follows. MatchBool follows
-            ((rest : List LineWord) → read_on self.new.parts self.new.awaiting rest ≡ read_on self.old.parts self.old.awaiting (word.now ∷ rest))
+            ((rest : List LineWord) → read_on self.new.parts self.new.awaiting rest
+            ≡ read_on self.old.parts self.old.awaiting (word.now ∷ rest))
             ((rest : List LineWord) → read_on self.old.parts self.old.awaiting (word.now ∷ rest) ≡ None)) }
     {
         if is_empty(word) {

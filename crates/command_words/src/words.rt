@@ -3,7 +3,7 @@ ghost use Rattle.std.specs.Prelude.{◌≡◌, ◌≤◌, ◌<◌, IfOk, IfSome,
 ghost use Rattle.std.specs.Option.{option_and_then};
 ghost use Rattle.tea_base.specs.Limits.{time_limit};
 ghost use Rattle.command_words.specs.Parts.{behind_first, first_positional};
-ghost use Rattle.command_words.specs.CommandWords.{a_name, a_number, a_time, asks, check_row, command_of, drill_row, hub_row, inspect_options, inspect_row, join_row, join_ends, join_options, live_options, most_name, read_by, reflect_files, reflect_options, reflect_row, replay_options, replay_puts, replay_row, rows, stamp_row, reflect_ends, trace_options, trace_row, votes_row};
+ghost use Rattle.command_words.specs.CommandWords.{a_name, a_number, a_time, asks, check_row, command_of, drill_row, host_row, hub_row, inspect_options, inspect_row, join_row, join_ends, join_options, live_options, most_name, read_by, reflect_files, reflect_options, reflect_row, replay_options, replay_puts, replay_row, rows, stamp_row, reflect_ends, trace_options, trace_row, votes_row};
 ghost use Rattle.command_words.specs.Bounds.{IsBounded, IsBoundedInspect, IsBoundedJoin, IsBoundedLive, IsBoundedReflect, IsWithinBounds, IsBoundedTrace};
 
 use crate::parts::{Parts, is_word, read_parts};
@@ -53,6 +53,8 @@ pub enum Command {
     /// `reflect PROGRAM NAME ADDRESS [--persisted JSON] [--from LOG] [--journal FILE] [--log FILE] --connections N`, with a journal or a
     /// log at least
     Reflect(ReflectRequest),
+    /// `host CONFIG ADDRESS --connections N --logs PREFIX`
+    Host(HostRequest),
     /// `drill SEED VIEWS EVENTS --log FILE --snapshots PREFIX`
     Drill(DrillRequest),
 }
@@ -150,6 +152,18 @@ pub struct ReflectRequest {
     pub journal: Option<Text>,
     /// Where the log of the session is put in the end.
     pub log: Option<Text>,
+}
+
+/// What a host of many sessions is asked for.
+#[derive(Drop)]
+pub struct HostRequest {
+    /// The file of its configuration.
+    pub config: Text,
+    pub address: Text,
+    /// How many links it accepts, from 1 to 64.
+    pub connections: u32,
+    /// Where its sessions are put in the end: each name is this, and then the number of the session.
+    pub logs: Text,
 }
 
 /// What a drill is asked for.
@@ -506,6 +520,24 @@ fn reflect(mut parts: Parts) -> Option<Command>
     reflect_ends(parts, program, name, address)
 }
 
+/// `host CONFIG ADDRESS --connections N --logs PREFIX`
+fn host(mut parts: Parts) -> Option<Command>
+    ensures read { result ≡ host_row.1 parts }
+    ensures bounds { IfSome result IsWithinBounds }
+{
+    let config = parts.positional()?;
+    let address = parts.positional()?;
+    let connections = number_within(&parts.option("--connections")?, 1, MOST_CONNECTIONS)?;
+    let logs = parts.option("--logs")?;
+    let request = HostRequest {
+        config,
+        address,
+        connections,
+        logs,
+    };
+    ask(Command::Host(request), &parts)
+}
+
 /// `drill SEED VIEWS EVENTS --log FILE --snapshots PREFIX`
 fn drill(mut parts: Parts) -> Option<Command>
     ensures read { result ≡ drill_row.1 parts }
@@ -549,6 +581,8 @@ fn command_named(name: &Text, parts: Parts) -> Option<Command>
         join(parts)
     } else if is_word(name, "reflect") {
         reflect(parts)
+    } else if is_word(name, "host") {
+        host(parts)
     } else if is_word(name, "drill") {
         drill(parts)
     } else {

@@ -9,7 +9,9 @@ use Rattle.model_solved.specs.Methods.{field_counts}
 use Rattle.tea_base.specs.Limits.{time_limit}
 use Rattle.world_plain.specs.Valid.{Valid}
 use Rattle.world_plain.specs.World.{WorldRecord}
-use Rattle.world.specs.Worlds.{Follows, replay, replay_on}
+use Rattle.world.specs.Worlds.{replay, replay_on}
+use Rattle.replica_plain.specs.Worlds.{WorldFollows}
+use Rattle.replica.specs.RealWorlds.{worlds}
 use Rattle.command_outcome.specs.declared.outcome.Input.TheVariants as input
 use Rattle.command_outcome.specs.declared.outcome.CommandRefusal.TheVariants as refusal
 use Rattle.command_words.specs.declared.words.ReplayRequest.{ReplayRequest}
@@ -24,10 +26,10 @@ early_verdict request tree log w early = rw (lt-ltb request.time w.time early) r
 pub late_verdict : (request : ReplayRequest) (tree : ProgramTree) (log : List Entry) (w : WorldRecord) → w.time ≤ request.time → resumed_verdict request tree log w ≡ world_verdict request (replay_on tree w log request.time).world
 late_verdict request tree log w late = rw (le-ltb request.time w.time late) refl
 
--- what `world::resumed_follows` says
+-- what `replica::resumed_follows` says
 abbrev pub ResumedFollows : Type 0
 ResumedFollows =
-    (founding : Founding) (w : WorldRecord) (entries : List Entry) (t : ℕ) → IsFounding founding → Valid (field_counts founding.tree) w → IsLegal entries → w.time ≤ t → t < time_limit → Follows founding w entries
+    (founding : Founding) (w : WorldRecord) (entries : List Entry) (t : ℕ) → IsFounding founding → Valid (field_counts founding.tree) w → IsLegal entries → w.time ≤ t → t < time_limit → WorldFollows (worlds founding w.id) entries w
     → (replay_on founding.tree w entries t).world ≡ (replay founding w.id entries t).world
 
 pub snapshots-agree : ResumedFollows → SnapshotsAgree

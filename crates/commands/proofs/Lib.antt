@@ -1,4 +1,5 @@
 pub mod Agreement
+pub mod HostLaws
 pub mod InspectLaws
 pub mod LogLaws
 pub mod NetLaws

@@ -1,7 +1,8 @@
--- Only the commands join, reflect and drill go on, and only the first two of them with a net; without the word for it, no journal is opened.
-use Rattle.std.proofs.Common.{◌≡◌, ◌⊎◌, inl, inr, ℕ, Bool, true, false, cond, nat_lt, List, Option, Some, None, encode_utf8_all, subst}
+-- Only the commands join, reflect, host and drill go on, and only the first three of them with a net; without the word for it, no journal is opened.
+use Rattle.std.proofs.Common.{◌≡◌, ◌⊎◌, inl, inr, ℕ, Bool, true, false, cond, nat_lt, List, [], ◌∷◌, ◌++◌, Option, Some, None, encode_utf8_all, subst}
 use Rattle.std.specs.Prelude.{⊤}
 use Rattle.tea_base.specs.declared.entry.Entry.{Entry}
+use Rattle.tea_base.specs.declared.entry.SessionId.{SessionId}
 use Rattle.reflector_core.specs.declared.request.Request.{Request}
 use Rattle.reflector_core.specs.Stored.{session_of}
 use Rattle.model_tree.specs.Tree.{ProgramTree}
@@ -18,8 +19,9 @@ use Rattle.command_words.specs.declared.words.TraceRequest.{TraceRequest}
 use Rattle.command_words.specs.declared.words.JoinRequest.{JoinRequest}
 use Rattle.command_words.specs.declared.words.LiveRequest.{LiveRequest}
 use Rattle.command_words.specs.declared.words.ReflectRequest.{ReflectRequest}
+use Rattle.command_words.specs.declared.words.HostRequest.{HostRequest}
 use Rattle.command_words.specs.declared.words.Command.{Command}
-use Rattle.command_words.specs.declared.words.Command.TheVariants.{Stamp, Check, Replay, Inspect, Trace, Votes, Hub, Join, Live, Reflect, Drill}
+use Rattle.command_words.specs.declared.words.Command.TheVariants.{Stamp, Check, Replay, Inspect, Trace, Votes, Hub, Join, Live, Reflect, Host, Drill}
 use Rattle.command_words.specs.Address.{is_address}
 use Rattle.command_words.specs.Bounds.{UsesNet}
 use Rattle.view_script.specs.PlainLine.{PlainLine}
@@ -30,10 +32,14 @@ use Rattle.command_inspect.specs.Queries.{queries_of}
 use Rattle.model_tree.specs.Bounds.{most_program_bytes}
 use Rattle.persist_json.specs.JsonOf.{most_json}
 use Rattle.tea_base.specs.Limits.{most_snapshot}
+use Rattle.host_config.specs.Config.{config_of}
+use Rattle.host_config.specs.Programs.{programs_of}
+use Rattle.host_config.specs.declared.reading.SessionLine.{SessionLine}
+use Rattle.commands.specs.declared.hosting.ReadProgram.{ReadProgram}
 use Rattle.commands.specs.Work.{AsksNoLive, NamesNoJournal, RunsOn}
 use Rattle.command_hub.specs.declared.script.HubLine.{HubLine}
 use Rattle.command_hub.specs.HubScript.{hub_script_of}
-use Rattle.commands.specs.Verdict.{ByDrill, ByGoingOn, ByKeeping, ByLive, ByNetFault, ByReadFault, ByReflecting, ByRefusal, ByVisit, ByWant, ByWriteFault, Closing, Comes, Coming, Fine, Free, OfFile, OfFounded, OfGiven, OfHubScript, OfInspect, OfInspectedLog, OfJoin, OfJournal, OfJson, OfKeyframes, OfLive, OfLiveBegun, OfLog, OfOpening, OfOwn, OfPersisted, OfProgram, OfQueries, OfRecorded, OfReflect, OfReflected, OfRight, OfScript, OfServed, OfSnapshot, OfTimeLine, OfTrace, OfTraced, OfTracedLog, OfTree, OfUnkept, OfView, OfViewScript, OfWords, Only, PlainKeeping, PlainLive, PlainReflection, PlainSource, PlainVisit, Starts, Verdict, ask_file, at_once, count_verdict, fine, first_source, founded, hub_verdict, inspect_verdict, keeping_of, keeps_few, live_of, most_log, most_queries, most_script, names_no_other, reflection_of, session_id_of, stamp_verdict, trace_verdict, visit_to, votes_verdict, OfLooked, OfReady}
+use Rattle.commands.specs.Verdict.{ByDrill, ByGoingOn, ByHosting, ByKeeping, ByLive, ByNetFault, ByReadFault, ByReflecting, ByRefusal, ByVisit, ByWant, ByWriteFault, Closing, Comes, Coming, Fine, Free, OfConfig, OfFile, OfFounded, OfGiven, OfHostIds, OfHostPrograms, OfHostReady, OfHubScript, OfInspect, OfInspectedLog, OfJoin, OfJournal, OfJson, OfKeyframes, OfLive, OfLiveBegun, OfLog, OfOpening, OfOwn, OfPersisted, OfProgram, OfQueries, OfRecorded, OfReflect, OfReflected, OfRight, OfScript, OfServed, OfSnapshot, OfTimeLine, OfTrace, OfTraced, OfTracedLog, OfTree, OfUnkept, OfView, OfViewScript, OfWords, Only, PlainHosting, PlainKeeping, PlainLive, PlainReflection, PlainSource, PlainVisit, Starts, ThenAll, Verdict, are_apart, ask_file, at_once, count_verdict, fine, first_source, founded, host_ids, hosting_of, hub_verdict, inspect_verdict, keeping_of, keeps_few, live_of, look_steps, most_config, most_log, most_queries, most_script, names_no_other, reflection_of, session_id_of, stamp_verdict, trace_verdict, visit_to, votes_verdict, OfLooked, OfReady}
 
 map_right : {A B C : Type 0} → A ⊎ B → (B → C) → A ⊎ C
 map_right (inl a) f = inl a
@@ -226,12 +232,41 @@ module _ (IsBad : Closing → Type 0) (not_fine : ¬ IsBad Fine) (not_refused : 
       right_never input.Address (is_address (encode_utf8_all request.address)) (OfPersisted request.persisted served)
       (persisted_never request.persisted served (λ v. served_never not_reflecting request kept (session_id_of request.name text v)))
 
+  -- ---- host
+
+  behind_never : (steps : List Step) (next : Coming) → Never next → Never (ThenAll steps next)
+  behind_never steps next never verdict (rest, is, comes) on = never rest comes (subst (λ (v : Verdict). IsBad v.closing) is on)
+
+  module _ (not_hosting : (hosting : PlainHosting) → ¬ IsBad (ByHosting hosting)) (request : HostRequest) where
+    host_ready_never : (hosting : PlainHosting) → Never (OfHostReady hosting)
+    host_ready_never hosting =
+        behind_never (look_steps hosting.logs) (Free (Only (at_once (ByHosting hosting))))
+        (free_never (Only (at_once (ByHosting hosting))) (only_never (at_once (ByHosting hosting)) (not_hosting hosting)))
+
+    host_ids_never : (ids : List SessionId) → Never (OfHostIds request ids)
+    host_ids_never ids =
+        let ready : Coming = OfHostReady (hosting_of request ids) in
+        right_never input.Config (are_apart ids) (OfRight input.Address (is_address (encode_utf8_all request.address)) ready)
+        (right_never input.Address (is_address (encode_utf8_all request.address)) ready (host_ready_never (hosting_of request ids)))
+
+    host_programs_never : (lines : List SessionLine) (read : List ReadProgram) (names : List (List ℕ)) → Never (OfHostPrograms request lines read names)
+    host_programs_never lines read [] = host_ids_never (host_ids read lines)
+    host_programs_never lines read (name ∷ names) =
+        let more : List ℕ → List ReadProgram = λ bytes. read ++ record { name = name; text = bytes } ∷ [] in
+        file_never input.Program (ask_file name most_program_bytes) (λ bytes. OfProgram (λ tree. OfHostPrograms request lines (more bytes) names) bytes)
+        (λ bytes. program_never (λ tree. OfHostPrograms request lines (more bytes) names) bytes (λ tree. host_programs_never lines (more bytes) names))
+
+    config_never : (lines : Option (List SessionLine)) → Never (OfConfig request lines)
+    config_never None = refused_never (refusal.Input input.Config)
+    config_never (Some lines) = host_programs_never lines [] (programs_of lines)
+
   -- what has to be so of a command that goes on
   abbrev pub GoesOnWell : Option Command → Type 0
   GoesOnWell (Some (Join request)) = (visit : PlainVisit) → ¬ IsBad (ByVisit visit)
   GoesOnWell (Some (Live request)) = (live : PlainLive) → ¬ IsBad (ByLive live)
   GoesOnWell (Some (Reflect request)) =
       ((reflection : PlainReflection) → ¬ IsBad (ByReflecting reflection)) × ((request.journal ≡ None) ⊎ ((keeping : PlainKeeping) → ¬ IsBad (ByKeeping keeping)))
+  GoesOnWell (Some (Host request)) = (hosting : PlainHosting) → ¬ IsBad (ByHosting hosting)
   GoesOnWell (Some (Drill request)) = ¬ IsBad (ByDrill request)
   GoesOnWell command = ⊤
 
@@ -264,6 +299,8 @@ module _ (IsBad : Closing → Type 0) (not_fine : ¬ IsBad Fine) (not_refused : 
   words_never (Some (Reflect request)) well =
       file_never input.Program (ask_file request.program most_program_bytes) (λ bytes. OfProgram (λ tree. OfReflect request bytes) bytes)
       (λ bytes. program_never (λ tree. OfReflect request bytes) bytes (λ tree. reflect_never well.0 request well.1 bytes))
+  words_never (Some (Host request)) well =
+      file_never input.Config (ask_file request.config most_config) (λ bytes. OfConfig request (config_of bytes)) (λ bytes. config_never well request (config_of bytes))
   words_never (Some (Drill request)) well = only_never (at_once (ByDrill request)) well
 
   pub never : (command : Option Command) → GoesOnWell command → Never (Comes command)
@@ -276,6 +313,7 @@ IsGoingOn (ByLive live) = ⊤
 IsGoingOn (ByReflecting reflection) = ⊤
 IsGoingOn (ByKeeping keeping) = ⊤
 IsGoingOn (ByGoingOn keeping place) = ⊤
+IsGoingOn (ByHosting hosting) = ⊤
 IsGoingOn (ByDrill request) = ⊤
 IsGoingOn closing = ⊥
 
@@ -291,6 +329,7 @@ goes_on_never (Some (Hub script logs)) other = tt
 goes_on_never (Some (Join request)) other = absurd (other tt)
 goes_on_never (Some (Live request)) other = absurd (other tt)
 goes_on_never (Some (Reflect request)) other = absurd (other tt)
+goes_on_never (Some (Host request)) other = absurd (other tt)
 goes_on_never (Some (Drill request)) other = absurd (other tt)
 
 -- what comes of another command does not go on
@@ -316,6 +355,7 @@ keeps_none (Some (Hub script logs)) none = tt
 keeps_none (Some (Join request)) none = λ visit on. absurd on
 keeps_none (Some (Live request)) none = λ live on. absurd on
 keeps_none (Some (Reflect request)) none = (λ reflection on. absurd on, inl none)
+keeps_none (Some (Host request)) none = λ hosting on. absurd on
 keeps_none (Some (Drill request)) none = λ on. absurd on
 
 -- where none is named, none is opened
@@ -341,6 +381,7 @@ lives_not (Some (Hub script logs)) none = tt
 lives_not (Some (Join request)) none = λ visit on. absurd on
 lives_not (Some (Live request)) none = absurd none
 lives_not (Some (Reflect request)) none = (λ reflection on. absurd on, inr (λ keeping on. absurd on))
+lives_not (Some (Host request)) none = λ hosting on. absurd on
 lives_not (Some (Drill request)) none = λ on. absurd on
 
 -- no other words lead to one
@@ -356,6 +397,7 @@ IsOnNet (ByLive live) = ⊤
 IsOnNet (ByReflecting reflection) = ⊤
 IsOnNet (ByKeeping keeping) = ⊤
 IsOnNet (ByGoingOn keeping place) = ⊤
+IsOnNet (ByHosting hosting) = ⊤
 IsOnNet closing = ⊥
 
 on_net_goes_on : (closing : Closing) → IsOnNet closing → IsGoingOn closing
@@ -364,6 +406,7 @@ on_net_goes_on (ByLive live) on = tt
 on_net_goes_on (ByReflecting reflection) on = tt
 on_net_goes_on (ByKeeping keeping) on = tt
 on_net_goes_on (ByGoingOn keeping place) on = tt
+on_net_goes_on (ByHosting hosting) on = tt
 on_net_goes_on (ByDrill request) on = absurd on
 on_net_goes_on Fine on = absurd on
 on_net_goes_on (ByRefusal why) on = absurd on
@@ -372,7 +415,7 @@ on_net_goes_on ByReadFault on = absurd on
 on_net_goes_on ByWriteFault on = absurd on
 on_net_goes_on ByNetFault on = absurd on
 
--- what comes of another command than join and reflect does not go on with a net
+-- what comes of another command than join, reflect and host does not go on with a net
 pub never_on_net : (command : Option Command) → ¬ UsesNet command → (verdict : Verdict) → Comes command verdict → ¬ IsOnNet verdict.closing
 never_on_net None other verdict comes on = never_goes_on None (λ runs. absurd runs) verdict comes (on_net_goes_on verdict.closing on)
 never_on_net (Some (Stamp script from log)) other verdict comes on = never_goes_on (Some (Stamp script from log)) (λ runs. absurd runs) verdict comes (on_net_goes_on verdict.closing on)
@@ -385,5 +428,6 @@ never_on_net (Some (Hub script logs)) other verdict comes on = never_goes_on (So
 never_on_net (Some (Join request)) other verdict comes on = absurd (other tt)
 never_on_net (Some (Live request)) other verdict comes on = absurd (other tt)
 never_on_net (Some (Reflect request)) other verdict comes on = absurd (other tt)
+never_on_net (Some (Host request)) other verdict comes on = absurd (other tt)
 never_on_net (Some (Drill request)) other verdict (inl want) on = absurd (subst (λ (v : Verdict). IsOnNet v.closing) want on)
 never_on_net (Some (Drill request)) other verdict (inr is) on = absurd (subst (λ (v : Verdict). IsOnNet v.closing) is on)

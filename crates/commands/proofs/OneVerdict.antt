@@ -1,7 +1,8 @@
 -- One verdict comes of a command, as long as its steps were told the same.
-use Rattle.std.proofs.Common.{◌≡◌, ◌⊎◌, inl, inr, ℕ, Bool, true, false, encode_utf8_all, List, [], ◌∷◌, length, Option, Some, None, refl, sym, ap, subst, ◌∙◌}
+use Rattle.std.proofs.Common.{◌≡◌, ◌⊎◌, inl, inr, ℕ, Bool, true, false, encode_utf8_all, List, [], ◌∷◌, ◌++◌, length, Option, Some, None, refl, sym, ap, subst, ◌∙◌}
 use Rattle.std.proofs.lemmas.Option.{same_Some}
 use Rattle.tea_base.specs.declared.entry.Entry.{Entry}
+use Rattle.tea_base.specs.declared.entry.SessionId.{SessionId}
 use Rattle.reflector_core.specs.Stored.{session_of}
 use Rattle.reflector_core.specs.declared.request.Request.{Request}
 use Rattle.model_tree.specs.Program.{Reading, a_program, no_program, too_large, IsReading}
@@ -31,8 +32,9 @@ use Rattle.command_words.specs.declared.words.TraceRequest.{TraceRequest}
 use Rattle.command_words.specs.declared.words.JoinRequest.{JoinRequest}
 use Rattle.command_words.specs.declared.words.LiveRequest.{LiveRequest}
 use Rattle.command_words.specs.declared.words.ReflectRequest.{ReflectRequest}
+use Rattle.command_words.specs.declared.words.HostRequest.{HostRequest}
 use Rattle.command_words.specs.declared.words.Command.{Command}
-use Rattle.command_words.specs.declared.words.Command.TheVariants.{Stamp, Check, Replay, Inspect, Trace, Votes, Hub, Join, Live, Reflect, Drill}
+use Rattle.command_words.specs.declared.words.Command.TheVariants.{Stamp, Check, Replay, Inspect, Trace, Votes, Hub, Join, Live, Reflect, Host, Drill}
 use Rattle.command_outcome.specs.ProgramText.{syntax_line}
 use Rattle.command_stamp.specs.Script.{script_of}
 use Rattle.command_inspect.specs.declared.query.Query.{Query}
@@ -44,7 +46,11 @@ use Rattle.commands.proofs.LogLaws.{same_source}
 use Rattle.commands.specs.Laws.{AreAlike, AreDoneAlike, IsOneVerdict, IsFunction}
 use Rattle.command_hub.specs.declared.script.HubLine.{HubLine}
 use Rattle.command_hub.specs.HubScript.{hub_script_of}
-use Rattle.commands.specs.Verdict.{ByDrill, ByKeeping, ByLive, ByReflecting, ByRefusal, ByVisit, ByWant, Closing, Coming, Free, OfFile, OfFounded, OfGiven, OfHubScript, OfInspect, OfInspectedLog, OfJoin, OfJournal, OfJson, OfKeyframes, OfLive, OfLiveBegun, OfLog, OfOpening, OfOwn, OfPersisted, OfProgram, OfQueries, OfRecorded, OfReflect, OfReflected, OfRight, OfScript, OfServed, OfSnapshot, OfTimeLine, OfTrace, OfTraced, OfTracedLog, OfTree, OfUnkept, OfView, OfViewScript, OfWords, Only, PlainSource, Starts, Verdict, ask_file, at_once, before, count_verdict, first_source, founded, hub_verdict, inspect_verdict, keeping_of, keeps_few, live_of, most_log, most_queries, most_script, names_no_other, reflection_of, resumed_verdict, session_id_of, stamp_verdict, trace_verdict, visit_to, votes_verdict, OfLooked, OfReady, PlainReflection}
+use Rattle.host_config.specs.Config.{config_of}
+use Rattle.host_config.specs.Programs.{programs_of}
+use Rattle.host_config.specs.declared.reading.SessionLine.{SessionLine}
+use Rattle.commands.specs.declared.hosting.ReadProgram.{ReadProgram}
+use Rattle.commands.specs.Verdict.{ByDrill, ByHosting, ByKeeping, ByLive, ByReflecting, ByRefusal, ByVisit, ByWant, Closing, Coming, Free, OfConfig, OfFile, OfFounded, OfGiven, OfHostIds, OfHostPrograms, OfHostReady, OfHubScript, OfInspect, OfInspectedLog, OfJoin, OfJournal, OfJson, OfKeyframes, OfLive, OfLiveBegun, OfLog, OfOpening, OfOwn, OfPersisted, OfProgram, OfQueries, OfRecorded, OfReflect, OfReflected, OfRight, OfScript, OfServed, OfSnapshot, OfTimeLine, OfTrace, OfTraced, OfTracedLog, OfTree, OfUnkept, OfView, OfViewScript, OfWords, Only, PlainHosting, PlainSource, Starts, ThenAll, Verdict, are_apart, ask_file, at_once, before, behind, count_verdict, first_source, founded, host_ids, hosting_of, hub_verdict, inspect_verdict, keeping_of, keeps_few, live_of, look_steps, most_config, most_log, most_queries, most_script, names_no_other, reflection_of, resumed_verdict, session_id_of, stamp_verdict, trace_verdict, visit_to, votes_verdict, OfLooked, OfReady, PlainReflection}
 
 -- what `model_lang::one_reading` says
 abbrev pub IsOneReading : Type 0
@@ -326,6 +332,38 @@ one_reflect request text =
     one_right input.Address (is_address (encode_utf8_all request.address)) (OfPersisted request.persisted served)
     (one_persisted request.persisted served (λ v. one_served request (session_id_of request.name text v)))
 
+-- ---- host
+
+behind_alike : (steps : List Step) (verdict other : Verdict) → Alike verdict other → Alike (behind steps verdict) (behind steps other)
+behind_alike [] verdict other alike = alike
+behind_alike (step ∷ steps) verdict other alike =
+    step_alike step (AreAlike (steps ++ verdict.steps) verdict.closing (steps ++ other.steps) other.closing) (behind_alike steps verdict other alike)
+
+one_behind : (steps : List Step) (next : Coming) → IsOneVerdict next → IsOneVerdict (ThenAll steps next)
+one_behind steps next one verdict other (rest, is, a) (more, also, b) =
+    alike_by verdict other (behind steps rest) (behind steps more) is also (behind_alike steps rest more (one rest more a b))
+
+one_host_ready : (hosting : PlainHosting) → IsOneVerdict (OfHostReady hosting)
+one_host_ready hosting =
+    one_behind (look_steps hosting.logs) (Free (Only (at_once (ByHosting hosting)))) (one_free (Only (at_once (ByHosting hosting))) (one_only (at_once (ByHosting hosting))))
+
+one_host_ids : (request : HostRequest) (ids : List SessionId) → IsOneVerdict (OfHostIds request ids)
+one_host_ids request ids =
+    let ready : Coming = OfHostReady (hosting_of request ids) in
+    one_right input.Config (are_apart ids) (OfRight input.Address (is_address (encode_utf8_all request.address)) ready)
+    (one_right input.Address (is_address (encode_utf8_all request.address)) ready (one_host_ready (hosting_of request ids)))
+
+one_host_programs : IsOneReading → (request : HostRequest) (lines : List SessionLine) (read : List ReadProgram) (names : List (List ℕ)) → IsOneVerdict (OfHostPrograms request lines read names)
+one_host_programs one request lines read [] = one_host_ids request (host_ids read lines)
+one_host_programs one request lines read (name ∷ names) =
+    let more : List ℕ → List ReadProgram = λ bytes. read ++ record { name = name; text = bytes } ∷ [] in
+    one_file input.Program (ask_file name most_program_bytes) (λ bytes. OfProgram (λ tree. OfHostPrograms request lines (more bytes) names) bytes)
+    (λ bytes. one_program one (λ tree. OfHostPrograms request lines (more bytes) names) (λ tree. one_host_programs one request lines (more bytes) names) bytes)
+
+one_config : IsOneReading → (request : HostRequest) (lines : Option (List SessionLine)) → IsOneVerdict (OfConfig request lines)
+one_config one request None = one_only (at_once (ByRefusal (refusal.Input input.Config)))
+one_config one request (Some lines) = one_host_programs one request lines [] (programs_of lines)
+
 -- ---- the commands
 
 one_words : IsOneReading → (command : Option Command) → IsOneVerdict (OfWords command)
@@ -356,6 +394,8 @@ one_words one (Some (Live request)) =
 one_words one (Some (Reflect request)) =
     one_file input.Program (ask_file request.program most_program_bytes) (λ bytes. OfProgram (λ tree. OfReflect request bytes) bytes)
     (λ bytes. one_program one (λ tree. OfReflect request bytes) (λ tree. one_reflect request bytes) bytes)
+one_words one (Some (Host request)) =
+    one_file input.Config (ask_file request.config most_config) (λ bytes. OfConfig request (config_of bytes)) (λ bytes. one_config one request (config_of bytes))
 one_words one (Some (Drill request)) = one_only (at_once (ByDrill request))
 
 pub is_function : IsOneReading → IsFunction

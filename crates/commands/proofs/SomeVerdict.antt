@@ -1,6 +1,7 @@
 -- Some verdict other than want of memory comes of a command, whatever its files give.
-use Rattle.std.proofs.Common.{◌≡◌, inl, inr, ℕ, Bool, true, false, cond, nat_lt, encode_utf8_all, List, [], ◌∷◌, Option, Some, None, refl, sym, arith, subst}
+use Rattle.std.proofs.Common.{◌≡◌, inl, inr, ℕ, Bool, true, false, cond, nat_lt, encode_utf8_all, List, [], ◌∷◌, ◌++◌, Option, Some, None, refl, sym, arith, subst}
 use Rattle.tea_base.specs.declared.entry.Entry.{Entry}
+use Rattle.tea_base.specs.declared.entry.SessionId.{SessionId}
 use Rattle.reflector_core.specs.declared.request.Request.{Request}
 use Rattle.reflector_core.specs.Stored.{session_of}
 use Rattle.model_tree.specs.Program.{Reading, a_program, no_program, too_large, IsReading, IsRead}
@@ -24,9 +25,10 @@ use Rattle.command_words.specs.declared.words.TraceRequest.{TraceRequest}
 use Rattle.command_words.specs.declared.words.JoinRequest.{JoinRequest}
 use Rattle.command_words.specs.declared.words.LiveRequest.{LiveRequest}
 use Rattle.command_words.specs.declared.words.ReflectRequest.{ReflectRequest}
+use Rattle.command_words.specs.declared.words.HostRequest.{HostRequest}
 use Rattle.command_words.specs.declared.words.DrillRequest.{DrillRequest}
 use Rattle.command_words.specs.declared.words.Command.{Command}
-use Rattle.command_words.specs.declared.words.Command.TheVariants.{Stamp, Check, Replay, Inspect, Trace, Votes, Hub, Join, Live, Reflect, Drill}
+use Rattle.command_words.specs.declared.words.Command.TheVariants.{Stamp, Check, Replay, Inspect, Trace, Votes, Hub, Join, Live, Reflect, Host, Drill}
 use Rattle.command_outcome.specs.ProgramText.{check_line, counts_line, syntax_line, too_large_line}
 use Rattle.command_stamp.specs.Script.{script_of}
 use Rattle.command_votes.specs.VotesText.{votes_text}
@@ -43,7 +45,11 @@ use Rattle.commands.specs.Laws.{AreGiven, IsOnlyWant, SomeVerdictComes}
 use Rattle.command_hub.specs.declared.script.HubLine.{HubLine}
 use Rattle.command_hub.specs.HubScript.{hub_script_of}
 use Rattle.command_hub.specs.HubRun.{hub_puts, hub_run}
-use Rattle.commands.specs.Verdict.{ByDrill, ByKeeping, ByLive, ByReflecting, ByRefusal, ByVisit, ByWant, Coming, Fine, OfCommand, OfFile, OfFounded, OfGiven, OfHubScript, OfInspect, OfInspectedLog, OfJoin, OfJournal, OfJson, OfKeyframes, OfLive, OfLiveBegun, OfLog, OfOpening, OfOwn, OfPersisted, OfProgram, OfQueries, OfRecorded, OfReflect, OfReflected, OfRight, OfScript, OfServed, OfSnapshot, OfTimeLine, OfTrace, OfTraced, OfTracedLog, OfTree, OfUnkept, OfView, OfViewScript, Only, PlainKeeping, PlainLive, PlainReflection, PlainSource, PlainVisit, Starts, ask_file, at_once, before, count_verdict, fine, first_source, founded, keeping_of, keeps_few, live_of, most_log, most_queries, most_script, names_no_other, reflection_of, session_id_of, stamp_verdict, trace_verdict, visit_to, votes_verdict, OfLooked, OfReady}
+use Rattle.host_config.specs.Config.{config_of}
+use Rattle.host_config.specs.Programs.{programs_of}
+use Rattle.host_config.specs.declared.reading.SessionLine.{SessionLine}
+use Rattle.commands.specs.declared.hosting.ReadProgram.{ReadProgram}
+use Rattle.commands.specs.Verdict.{ByDrill, ByHosting, ByKeeping, ByLive, ByReflecting, ByRefusal, ByVisit, ByWant, Coming, Fine, OfCommand, OfConfig, OfFile, OfFounded, OfGiven, OfHostIds, OfHostPrograms, OfHostReady, OfHubScript, OfInspect, OfInspectedLog, OfJoin, OfJournal, OfJson, OfKeyframes, OfLive, OfLiveBegun, OfLog, OfOpening, OfOwn, OfPersisted, OfProgram, OfQueries, OfRecorded, OfReflect, OfReflected, OfRight, OfScript, OfServed, OfSnapshot, OfTimeLine, OfTrace, OfTraced, OfTracedLog, OfTree, OfUnkept, OfView, OfViewScript, Only, PlainHosting, PlainKeeping, PlainLive, PlainReflection, PlainSource, PlainVisit, Starts, are_apart, ask_file, at_once, before, behind, count_verdict, fine, first_source, founded, host_ids, hosting_of, keeping_of, keeps_few, live_of, look_steps, most_config, most_log, most_queries, most_script, names_no_other, reflection_of, session_id_of, stamp_verdict, trace_verdict, visit_to, votes_verdict, OfLooked, OfReady}
 
 abbrev pub Told : Type 0
 Told = Ask → Option (List ℕ)
@@ -283,6 +289,34 @@ reflect_not_want told request text =
     right_not_want told input.Address (is_address (encode_utf8_all request.address)) (OfPersisted request.persisted served)
     (persisted_not_want told request.persisted served (λ v. served_not_want told request (session_id_of request.name text v)))
 
+-- ---- host
+
+looks_given : (told : Told) (names : List (List ℕ)) → AreGiven told (look_steps names ++ [])
+looks_given told [] = tt
+looks_given told (name ∷ names) = looks_given told names
+
+host_ready_not_want : (told : Told) (hosting : PlainHosting) → ¬ IsOnlyWant told (OfHostReady hosting)
+host_ready_not_want told hosting only =
+    let want : ByHosting hosting ≡ ByWant = only (behind (look_steps hosting.logs) (at_once (ByHosting hosting))) (at_once (ByHosting hosting), refl, inr refl) (looks_given told hosting.logs) in
+    absurd cc
+
+host_ids_not_want : (told : Told) (request : HostRequest) (ids : List SessionId) → ¬ IsOnlyWant told (OfHostIds request ids)
+host_ids_not_want told request ids =
+    let ready : Coming = OfHostReady (hosting_of request ids) in
+    right_not_want told input.Config (are_apart ids) (OfRight input.Address (is_address (encode_utf8_all request.address)) ready)
+    (right_not_want told input.Address (is_address (encode_utf8_all request.address)) ready (host_ready_not_want told (hosting_of request ids)))
+
+host_programs_not_want : IsSomeReading → (told : Told) (request : HostRequest) (lines : List SessionLine) (read : List ReadProgram) (names : List (List ℕ)) → ¬ IsOnlyWant told (OfHostPrograms request lines read names)
+host_programs_not_want some told request lines read [] = host_ids_not_want told request (host_ids read lines)
+host_programs_not_want some told request lines read (name ∷ names) =
+    let more : List ℕ → List ReadProgram = λ bytes. read ++ record { name = name; text = bytes } ∷ [] in
+    file_not_want told input.Program (ask_file name most_program_bytes) (λ bytes. OfProgram (λ tree. OfHostPrograms request lines (more bytes) names) bytes)
+    (λ bytes. program_not_want some told (λ tree. OfHostPrograms request lines (more bytes) names) bytes (λ tree. host_programs_not_want some told request lines (more bytes) names))
+
+config_not_want : IsSomeReading → (told : Told) (request : HostRequest) (lines : Option (List SessionLine)) → ¬ IsOnlyWant told (OfConfig request lines)
+config_not_want some told request None = refused_not_want told (OfConfig request None) (refusal.Input input.Config) refl
+config_not_want some told request (Some lines) = host_programs_not_want some told request lines [] (programs_of lines)
+
 -- ---- the commands
 
 command_not_want : IsSomeReading → (told : Told) (command : Command) → ¬ IsOnlyWant told (OfCommand command)
@@ -312,6 +346,8 @@ command_not_want some told (Live request) =
 command_not_want some told (Reflect request) =
     file_not_want told input.Program (ask_file request.program most_program_bytes) (λ bytes. OfProgram (λ tree. OfReflect request bytes) bytes)
     (λ bytes. program_not_want some told (λ tree. OfReflect request bytes) bytes (λ tree. reflect_not_want told request bytes))
+command_not_want some told (Host request) =
+    file_not_want told input.Config (ask_file request.config most_config) (λ bytes. OfConfig request (config_of bytes)) (λ bytes. config_not_want some told request (config_of bytes))
 command_not_want some told (Drill request) = drill_not_want told (OfCommand (Drill request)) request refl
 
 pub some_verdict_comes : IsSomeReading → SomeVerdictComes

@@ -12,6 +12,7 @@ use Rattle.commands.specs.declared.tracing.TraceWait.TheVariants as trace_wait
 use Rattle.commands.specs.declared.visit.JoinWait.TheVariants as join_wait
 use Rattle.commands.specs.declared.live.LiveWait.TheVariants as live_wait
 use Rattle.commands.specs.declared.reflection.ReflectWait.TheVariants as reflect_wait
+use Rattle.commands.specs.declared.hosting.HostWait.TheVariants as host_wait
 use Rattle.commands.specs.Verdict.{ByRefusal, Free, Verdict, before, at_once}
 use Rattle.commands.specs.Work.{ComesNext, Leads, Remains, ask_of, files_left, input_of, next_of}
 
@@ -49,6 +50,8 @@ some_left (waiting.Reflect (reflect_wait.Program request)) = omega arith
 some_left (waiting.Reflect (reflect_wait.Value wait)) = omega arith
 some_left (waiting.Reflect (reflect_wait.Log wait)) = omega arith
 some_left (waiting.Reflect (reflect_wait.Founding wait)) = omega arith
+some_left (waiting.Host (host_wait.Config request)) = omega arith
+some_left (waiting.Host (host_wait.Program wait)) = omega arith
 
 -- where its bytes were handed over, it goes on
 pub handed_on : (wait : Waiting) (bytes : List ℕ) (step : Next) (rest : Verdict) → Leads step (Free (next_of wait bytes)) → ComesNext step rest → Remains wait (before (Loads (ask_of wait) (Some bytes)) rest)

@@ -15,7 +15,8 @@ founded_with keeping stored = record keeping { from = None; opening = Some store
 
 -- it is founded with what a log holds, if that is of the session
 abbrev pub OfFoundingLog : PlainKeeping → PlainSource → Coming
-OfFoundingLog keeping source = OfOwn source.named keeping.id (Only (at_once (ByKeeping (founded_with keeping source.stored))))
+OfFoundingLog keeping source =
+    OfOwn source.named keeping.id (Only (at_once (ByKeeping (founded_with keeping source.stored))))
 
 -- it is founded with what the log of a name holds, or with a first session
 abbrev pub OfFounding : Option (List ℕ) → PlainKeeping → Coming
@@ -34,7 +35,10 @@ no_journal = ByRefusal (refusal.Input input.Journal)
 -- what is put and printed of a journal that was read, before it goes on
 abbrev pub going_on_verdict : PlainKeeping → Place PlainStored → Verdict
 going_on_verdict keeping place =
-    record { steps = going_on_steps keeping.journal keeping.log place.state place.rest; closing = ByGoingOn keeping place }
+    record {
+      steps = going_on_steps keeping.journal keeping.log place.state place.rest;
+      closing = ByGoingOn keeping place;
+    }
 
 -- what comes of bytes that were read so
 abbrev pub OfFound : PlainKeeping → Found → Coming

@@ -10,7 +10,9 @@ use Rattle.model_solved.specs.Founding.{Founding, IsFounding}
 use Rattle.model_solved.specs.Methods.{field_counts}
 use Rattle.world_plain.specs.Valid.{Valid}
 use Rattle.world_plain.specs.World.{WorldRecord}
-use Rattle.world.specs.Worlds.{Follows, replay}
+use Rattle.world.specs.Worlds.{replay}
+use Rattle.replica_plain.specs.Worlds.{WorldFollows}
+use Rattle.replica.specs.RealWorlds.{worlds}
 use Rattle.run_steps.specs.Steps.{Ask, Step, Loads, Hears}
 use Rattle.command_outcome.specs.declared.outcome.CommandRefusal.TheVariants as refusal
 use Rattle.command_outcome.specs.ProgramText.{syntax_line}
@@ -22,14 +24,16 @@ use Rattle.commands.specs.Verdict.{ByRefusal, ByWant, Closing, Coming, Comes, Ve
 -- The log that a script leaves tells the events of the log that it began with, and those that were answered Stamped.
 abbrev pub LogsTellTheirEvents : Type 0
 LogsTellTheirEvents =
-    (bytes : List ℕ) (requests : List Request) (opening : PlainSession) → script_of bytes ≡ Some requests → IsSoundSession opening
+    (bytes : List ℕ) (requests : List Request) (opening : PlainSession) → script_of bytes ≡ Some requests
+    → IsSoundSession opening
     → TellsItsEvents opening.log requests (replies_from opening requests) (after_all opening requests).log
 
 -- a snapshot of a world that follows the log leads to what the log leads to from its beginning
 abbrev pub SnapshotsAgree : Type 0
 SnapshotsAgree =
     (request : ReplayRequest) (founding : Founding) (log : List Entry) (w : WorldRecord)
-    → IsFounding founding → Valid (field_counts founding.tree) w → IsLegal log → w.time ≤ request.time → request.time < time_limit → Follows founding w log
+    → IsFounding founding → Valid (field_counts founding.tree) w → IsLegal log → w.time ≤ request.time
+    → request.time < time_limit → WorldFollows (worlds founding w.id) log w
     → resumed_verdict request founding.tree log w ≡ world_verdict request (replay founding w.id log request.time).world
 
 -- it tells a place in a text that is no program
@@ -56,7 +60,8 @@ AreAlike (step ∷ steps) closing (other ∷ others) last = AreDoneAlike step ot
 
 -- all verdicts that come are alike
 abbrev pub IsOneVerdict : Coming → Type 0
-IsOneVerdict coming = (verdict other : Verdict) → coming verdict → coming other → AreAlike verdict.steps verdict.closing other.steps other.closing
+IsOneVerdict coming = (verdict other : Verdict) → coming verdict → coming other
+    → AreAlike verdict.steps verdict.closing other.steps other.closing
 
 -- so a command is a function of what its steps are told
 abbrev pub IsFunction : Type 0

@@ -1,11 +1,13 @@
 -- What comes of a command: the steps that it does, one after the other, and how it is closed.
-use Rattle.std.specs.Prelude.{◌≡◌, ◌⊎◌, ℕ, ℤ, ◌/◌, Bool, true, false, nat_le, nat_lt, if◌then◌else◌, List, [], ◌∷◌, ◌++◌, length, encode_utf8_all, Option, Some, None}
+use Rattle.std.specs.Prelude.{◌≡◌, ◌⊎◌, ℕ, ℤ, ◌/◌, Bool, true, false, not, ◌&&◌, ◌||◌, nat_le, nat_lt, if◌then◌else◌, List, [], ◌∷◌, ◌++◌, length, map, encode_utf8_all, Option, Some, None}
 use Rattle.std.specs.Str.{bytes_eq}
 use Rattle.tea_base.specs.declared.entry.Entry.{Entry}
+use Rattle.tea_base.specs.declared.entry.SessionId.{SessionId}
 use Rattle.tea_io.specs.declared.net.NetFault.{NetFault}
 use Rattle.tea_io.specs.declared.net.NetFault.TheVariants as net_fault
 use Rattle.connection.specs.declared.ending.Ended.{Ended}
 use Rattle.reflector_core.specs.PlainSession.{PlainSession}
+use Rattle.reflector_core.specs.SessionState.{SessionState}
 use Rattle.reflector_core.specs.Stored.{session_of, stored_of}
 use Rattle.session_log.specs.Stored.{PlainStored, IsStored, stored_spelling}
 use Rattle.session_journal.specs.Frames.{Place}
@@ -39,9 +41,10 @@ use Rattle.command_words.specs.declared.words.TraceRequest.{TraceRequest}
 use Rattle.command_words.specs.declared.words.JoinRequest.{JoinRequest}
 use Rattle.command_words.specs.declared.words.LiveRequest.{LiveRequest}
 use Rattle.command_words.specs.declared.words.ReflectRequest.{ReflectRequest}
+use Rattle.command_words.specs.declared.words.HostRequest.{HostRequest}
 use Rattle.command_words.specs.declared.words.DrillRequest.{DrillRequest}
 use Rattle.command_words.specs.declared.words.Command.{Command}
-use Rattle.command_words.specs.declared.words.Command.TheVariants.{Stamp, Check, Replay, Inspect, Trace, Votes, Hub, Join, Live, Reflect, Drill}
+use Rattle.command_words.specs.declared.words.Command.TheVariants.{Stamp, Check, Replay, Inspect, Trace, Votes, Hub, Join, Live, Reflect, Host, Drill}
 use Rattle.command_words.specs.Address.{is_address}
 use Rattle.command_stamp.specs.Script.{script_of}
 use Rattle.command_outcome.specs.Outcome.{optional_put, steps_of}
@@ -61,6 +64,13 @@ use Rattle.command_hub.specs.HubScript.{hub_script_of}
 use Rattle.command_hub.specs.HubRun.{hub_steps}
 use Rattle.command_outcome.specs.declared.outcome.Put.{Put}
 use Rattle.command_reflect.specs.ReflectedSteps.{reflected_bytes, reflected_text}
+use Rattle.host_config.specs.Config.{config_of}
+use Rattle.host_config.specs.Programs.{programs_of}
+use Rattle.host_config.specs.declared.reading.SessionLine.{SessionLine}
+use Rattle.host_server.specs.declared.hosting.HostEnd.{HostEnd}
+use Rattle.command_host.specs.Hosting.{numbered_names, session_puts}
+use Rattle.command_host.specs.HostedSteps.{hosted_text}
+use Rattle.commands.specs.declared.hosting.ReadProgram.{ReadProgram}
 use Rattle.command_drill.specs.DrilledSteps.{drilled_steps}
 
 -- the visit of a view to a session: what that is founded from, the session's id, the number of the view, the address of its reflector, and what it
@@ -100,6 +110,13 @@ pub record PlainKeeping : Type 0 where
   pub opening : Option PlainStored
   pub log : Option (List ℕ)
 
+-- what a host serves: the ids of its sessions, the address, how many links it accepts, and where it puts each session
+pub record PlainHosting : Type 0 where
+  pub ids : List SessionId
+  pub address : List ℕ
+  pub connections : ℕ
+  pub logs : List (List ℕ)
+
 -- how a command is closed, behind all its steps
 pub data Closing : Type 0 where
   -- all went well
@@ -124,6 +141,8 @@ pub data Closing : Type 0 where
   ByKeeping : PlainKeeping → Closing
   -- the run goes on as that of a reflector whose journal goes on from here
   ByGoingOn : PlainKeeping → Place PlainStored → Closing
+  -- the run goes on as a host's, which serves these sessions
+  ByHosting : PlainHosting → Closing
   -- the run goes on as this drill
   ByDrill : DrillRequest → Closing
 
@@ -143,6 +162,10 @@ at_once closing = record { steps = []; closing = closing }
 -- this step, and then all of that verdict
 abbrev pub before : Step → Verdict → Verdict
 before step rest = record { steps = step ∷ rest.steps; closing = rest.closing }
+
+-- these steps, and then all of that verdict
+abbrev pub behind : List Step → Verdict → Verdict
+behind steps rest = record { steps = steps ++ rest.steps; closing = rest.closing }
 
 -- which verdicts may come
 abbrev pub Coming : Type 1
@@ -164,6 +187,10 @@ OfRight at false next = Only (at_once (ByRefusal (refusal.Input at)))
 -- a step is done, and then this comes
 abbrev pub Then : Step → Coming → Coming
 Then step next verdict = (rest : Verdict) × (verdict ≡ before step rest) × next rest
+
+-- these steps are done, one after the other, and then this comes
+abbrev pub ThenAll : List Step → Coming → Coming
+ThenAll steps next verdict = (rest : Verdict) × (verdict ≡ behind steps rest) × next rest
 
 -- what comes of the bytes of a file, which is this input, or of one above its limit
 abbrev pub OfGiven : Input → Option (List ℕ) → (List ℕ → Coming) → Coming
@@ -232,12 +259,14 @@ OfOwn named id next = OfRight input.Journal (names_no_other named id) next
 -- the session replies to the requests, and it is put as it is stored after them
 abbrev pub stamp_verdict : PlainSession → Option (List ℕ) → List Request → Verdict
 stamp_verdict opening log requests =
-    fine (steps_of (optional_put log (stored_spelling (stored_of (after_all opening requests)))) (text_of (replies_from opening requests)))
+    fine (steps_of (optional_put log (stored_spelling (stored_of (after_all opening requests))))
+    (text_of (replies_from opening requests)))
 
 -- once the script was read, the session begins; a journal may name any id
 abbrev pub OfScript : Option (List ℕ) → Option (List ℕ) → Option (List Request) → Coming
 OfScript from log None = Only (at_once (ByRefusal (refusal.Input input.Script)))
-OfScript from log (Some requests) = OfOpening from (λ source. Only (stamp_verdict (session_of source.stored) log requests))
+OfScript from log (Some requests) =
+    OfOpening from (λ source. Only (stamp_verdict (session_of source.stored) log requests))
 
 -- the most bytes of a script
 abbrev pub most_script : ℕ
@@ -296,21 +325,25 @@ resumed_verdict request tree log w =
 abbrev pub OfSnapshot : ReplayRequest → ProgramTree → List ℕ → List Entry → List ℕ → Coming
 OfSnapshot request tree id log bytes verdict =
     ((w : WorldRecord) × IsSnapshot (field_counts tree) id bytes w × Only (resumed_verdict request tree log w) verdict)
-    ⊎ (((w : WorldRecord) → ¬ IsSnapshot (field_counts tree) id bytes w) × Only (at_once (ByRefusal (refusal.Input input.Snapshot))) verdict)
+    ⊎ (((w : WorldRecord) → ¬ IsSnapshot (field_counts tree) id bytes w)
+    × Only (at_once (ByRefusal (refusal.Input input.Snapshot))) verdict)
 
 -- a replay begins with the first world of the session, or with that of a snapshot
 abbrev pub Starts : Option (List ℕ) → ReplayRequest → Founding → List ℕ → List Entry → Coming
 Starts None request founding id log = Only (world_verdict request (replay founding id log request.time).world)
-Starts (Some from) request founding id log = OfFile input.Snapshot (ask_file from most_snapshot) (OfSnapshot request founding.tree id log)
+Starts (Some from) request founding id log =
+    OfFile input.Snapshot (ask_file from most_snapshot) (OfSnapshot request founding.tree id log)
 
 -- once the persisted value is known, the log has to be of the session, and the replay begins
 abbrev pub OfFounded : ReplayRequest → List ℕ → PlainSource → Founding → Coming
 OfFounded request text source founding =
-    let id = session_id_of request.name text founding.persisted in OfOwn source.named id (Starts request.from request founding id source.stored.log)
+    let id = session_id_of request.name text founding.persisted
+    in OfOwn source.named id (Starts request.from request founding id source.stored.log)
 
 -- once the log was read, the persisted value is
 abbrev pub OfRecorded : ReplayRequest → List ℕ → ProgramTree → PlainSource → Coming
-OfRecorded request text tree source = OfPersisted request.persisted (λ v. OfFounded request text source (founded tree v))
+OfRecorded request text tree source =
+    OfPersisted request.persisted (λ v. OfFounded request text source (founded tree v))
 
 -- once the program was read, the log is
 abbrev pub OfTree : ReplayRequest → List ℕ → ProgramTree → Coming
@@ -338,20 +371,24 @@ keeps_few every log = nat_le (length log / every) most_frames
 -- once it is known that few worlds are kept, the queries are read
 abbrev pub OfKeyframes : ℕ → List ℕ → Founding → List ℕ → List Entry → Coming
 OfKeyframes every queries founding id log =
-    OfRight input.Every (keeps_few every log) (OfFile input.Queries (ask_file queries most_queries) (λ bytes. OfQueries founding id log (queries_of bytes)))
+    OfRight input.Every (keeps_few every log)
+    (OfFile input.Queries (ask_file queries most_queries) (λ bytes. OfQueries founding id log (queries_of bytes)))
 
 -- once the persisted value is known, the log has to be of the session, and the worlds are kept
 abbrev pub OfTimeLine : InspectRequest → List ℕ → PlainSource → Founding → Coming
 OfTimeLine request text source founding =
-    let id = session_id_of request.name text founding.persisted in OfOwn source.named id (OfKeyframes request.every request.queries founding id source.stored.log)
+    let id = session_id_of request.name text founding.persisted
+    in OfOwn source.named id (OfKeyframes request.every request.queries founding id source.stored.log)
 
 -- once the log was read, the persisted value is
 abbrev pub OfInspectedLog : InspectRequest → List ℕ → ProgramTree → PlainSource → Coming
-OfInspectedLog request text tree source = OfPersisted request.persisted (λ v. OfTimeLine request text source (founded tree v))
+OfInspectedLog request text tree source =
+    OfPersisted request.persisted (λ v. OfTimeLine request text source (founded tree v))
 
 -- once the program was read, the log is
 abbrev pub OfInspect : InspectRequest → List ℕ → ProgramTree → Coming
-OfInspect request text tree = OfFile input.Log (ask_file request.log most_log) (OfLog (OfInspectedLog request text tree))
+OfInspect request text tree =
+    OfFile input.Log (ask_file request.log most_log) (OfLog (OfInspectedLog request text tree))
 
 -- ---- trace
 
@@ -362,11 +399,13 @@ trace_verdict founding id log from to = fine (steps_of [] (trace_text founding i
 -- once the persisted value is known, the log has to be of the session, and what ran is printed
 abbrev pub OfTraced : TraceRequest → List ℕ → PlainSource → Founding → Coming
 OfTraced request text source founding =
-    let id = session_id_of request.name text founding.persisted in OfOwn source.named id (Only (trace_verdict founding id source.stored.log request.from request.to))
+    let id = session_id_of request.name text founding.persisted
+    in OfOwn source.named id (Only (trace_verdict founding id source.stored.log request.from request.to))
 
 -- once the log was read, the persisted value is
 abbrev pub OfTracedLog : TraceRequest → List ℕ → ProgramTree → PlainSource → Coming
-OfTracedLog request text tree source = OfPersisted request.persisted (λ v. OfTraced request text source (founded tree v))
+OfTracedLog request text tree source =
+    OfPersisted request.persisted (λ v. OfTraced request text source (founded tree v))
 
 -- once the program was read, the log is
 abbrev pub OfTrace : TraceRequest → List ℕ → ProgramTree → Coming
@@ -393,46 +432,76 @@ OfHubScript logs (Some lines) = Only (hub_verdict logs lines)
 
 abbrev pub visit_to : JoinRequest → List ℕ → List PlainLine → Founding → PlainVisit
 visit_to request text lines founding =
-    record { founding = founding; id = session_id_of request.name text founding.persisted; view = request.view; address = request.address; lines = lines }
+    record {
+      founding = founding;
+      id = session_id_of request.name text founding.persisted;
+      view = request.view;
+      address = request.address;
+      lines = lines;
+    }
 
 -- what comes of a view's script, or of none: the persisted value is read, and then the view visits
 abbrev pub OfViewScript : JoinRequest → List ℕ → ProgramTree → Option (List PlainLine) → Coming
 OfViewScript request text tree None = Only (at_once (ByRefusal (refusal.Input input.Script)))
-OfViewScript request text tree (Some lines) = OfPersisted request.persisted (λ v. Only (at_once (ByVisit (visit_to request text lines (founded tree v)))))
+OfViewScript request text tree (Some lines) =
+    OfPersisted request.persisted (λ v. Only (at_once (ByVisit (visit_to request text lines (founded tree v)))))
 
 -- the script of a view is read
 abbrev pub OfView : JoinRequest → List ℕ → ProgramTree → Coming
-OfView request text tree = OfFile input.Script (ask_file request.script most_script) (λ bytes. OfViewScript request text tree (view_script_of bytes))
+OfView request text tree = OfFile input.Script (ask_file request.script most_script) (λ bytes.
+    OfViewScript request text tree (view_script_of bytes))
 
 -- once the program was read, the address is checked, and then the script is read
 abbrev pub OfJoin : JoinRequest → List ℕ → ProgramTree → Coming
-OfJoin request text tree = OfRight input.Address (is_address (encode_utf8_all request.address)) (OfView request text tree)
+OfJoin request text tree = OfRight input.Address (is_address (encode_utf8_all request.address))
+    (OfView request text tree)
 
 -- ---- join, where the lines come to the run
 
 abbrev pub live_of : LiveRequest → List ℕ → Founding → PlainLive
 live_of request text founding =
-    record { founding = founding; id = session_id_of request.name text founding.persisted; view = request.view; address = request.address }
+    record {
+      founding = founding;
+      id = session_id_of request.name text founding.persisted;
+      view = request.view;
+      address = request.address;
+    }
 
 -- the persisted value is read, and then the view takes part
 abbrev pub OfLiveBegun : LiveRequest → List ℕ → ProgramTree → Coming
-OfLiveBegun request text tree = OfPersisted request.persisted (λ v. Only (at_once (ByLive (live_of request text (founded tree v)))))
+OfLiveBegun request text tree =
+    OfPersisted request.persisted (λ v. Only (at_once (ByLive (live_of request text (founded tree v)))))
 
 -- once the program was read, the address is checked
 abbrev pub OfLive : LiveRequest → List ℕ → ProgramTree → Coming
-OfLive request text tree = OfRight input.Address (is_address (encode_utf8_all request.address)) (OfLiveBegun request text tree)
+OfLive request text tree = OfRight input.Address (is_address (encode_utf8_all request.address))
+    (OfLiveBegun request text tree)
 
 -- ---- reflect
 
 -- a reflector of the session of this id, which goes on from this one
 abbrev pub reflection_of : ReflectRequest → List ℕ → PlainSession → PlainReflection
 reflection_of request id opening =
-    record { id = id; opening = opening; address = request.address; connections = request.connections; log = request.log }
+    record {
+      id = id;
+      opening = opening;
+      address = request.address;
+      connections = request.connections;
+      log = request.log;
+    }
 
 -- a reflector that keeps the journal of this name, of which nothing is known yet
 abbrev pub keeping_of : ReflectRequest → List ℕ → List ℕ → PlainKeeping
 keeping_of request id journal =
-    record { id = id; address = request.address; connections = request.connections; journal = journal; from = request.from; opening = None; log = request.log }
+    record {
+      id = id;
+      address = request.address;
+      connections = request.connections;
+      journal = journal;
+      from = request.from;
+      opening = None;
+      log = request.log;
+    }
 
 -- the one without a journal, the other with one
 abbrev pub OfJournal : Option (List ℕ) → Coming → (List ℕ → Coming) → Coming
@@ -458,12 +527,14 @@ OfUnkept request id = OfOpening request.from (OfReflected request id)
 
 -- once the id is known, the journal is opened, if one is named
 abbrev pub OfServed : ReflectRequest → List ℕ → Coming
-OfServed request id = OfJournal request.journal (OfUnkept request id) (λ journal. Only (at_once (ByKeeping (keeping_of request id journal))))
+OfServed request id = OfJournal request.journal (OfUnkept request id) (λ journal.
+    Only (at_once (ByKeeping (keeping_of request id journal))))
 
 -- once the program was read, the address is checked, then the persisted value is read, and then the session begins
 abbrev pub OfReflect : ReflectRequest → List ℕ → Coming
 OfReflect request text =
-    OfRight input.Address (is_address (encode_utf8_all request.address)) (OfPersisted request.persisted (λ v. OfServed request (session_id_of request.name text v)))
+    OfRight input.Address (is_address (encode_utf8_all request.address))
+    (OfPersisted request.persisted (λ v. OfServed request (session_id_of request.name text v)))
 
 -- how a run is closed after its reflector: a call was not kept, or the net has failed or memory was wanted for one more link, or all went well
 abbrev pub reflected_closing : Bool → Option NetFault → Closing
@@ -486,6 +557,85 @@ OfPut (Some name) session next = Then (Puts name (reflected_bytes session)) next
 abbrev pub OfEnds : Option (List ℕ) → List Ended → PlainSession → Bool → Option NetFault → Coming
 OfEnds log ends session unkept stopped = OfPut log session (Free (Only (reflected_verdict ends session unkept stopped)))
 
+-- ---- host
+
+-- the most bytes of a configuration
+abbrev pub most_config : ℕ
+most_config = 65536
+
+-- the text of the program of this name, among those that were read
+abbrev pub text_in : List ReadProgram → List ℕ → List ℕ
+text_in [] name = []
+text_in (found ∷ read) name = if bytes_eq found.name name then found.text else text_in read name
+
+-- the id of a session, by its name and the text of its program; its persisted value is nil
+abbrev pub host_id : List ReadProgram → SessionLine → SessionId
+host_id read line = record { 0 = session_id_of line.name (text_in read line.program) nil }
+
+abbrev pub host_ids : List ReadProgram → List SessionLine → List SessionId
+host_ids read lines = map (host_id read) lines
+
+-- the id is among these
+abbrev pub is_among : SessionId → List SessionId → Bool
+is_among id [] = false
+is_among id (other ∷ ids) = bytes_eq other.0 id.0 || is_among id ids
+
+-- no two of these ids are the same
+abbrev pub are_apart : List SessionId → Bool
+are_apart [] = true
+are_apart (id ∷ ids) = not (is_among id ids) && are_apart ids
+
+-- a host of the sessions of these ids; each is put under a name that ends in its number, from 1 on
+abbrev pub hosting_of : HostRequest → List SessionId → PlainHosting
+hosting_of request ids =
+    record {
+      ids = ids;
+      address = request.address;
+      connections = request.connections;
+      logs = numbered_names request.logs 1 ids;
+    }
+
+-- the run looks whether files can be put under these names
+abbrev pub look_steps : List (List ℕ) → List Step
+look_steps names = map Looks names
+
+-- Sessions are ready to be hosted. Before anything listens the run looks whether each can be put. Memory may be wanted for that alone.
+abbrev pub OfHostReady : PlainHosting → Coming
+OfHostReady hosting = ThenAll (look_steps hosting.logs) (Free (Only (at_once (ByHosting hosting))))
+
+-- two sessions of one id are refused, and then the address is checked
+abbrev pub OfHostIds : HostRequest → List SessionId → Coming
+OfHostIds request ids =
+    OfRight input.Config (are_apart ids)
+    (OfRight input.Address (is_address (encode_utf8_all request.address)) (OfHostReady (hosting_of request ids)))
+
+-- programs are read and checked, one after the other, and then the ids of the sessions are known
+abbrev pub OfHostPrograms : HostRequest → List SessionLine → List ReadProgram → List (List ℕ) → Coming
+OfHostPrograms request lines read [] = OfHostIds request (host_ids read lines)
+OfHostPrograms request lines read (name ∷ names) =
+    OfFile input.Program (ask_file name most_program_bytes)
+    (λ bytes. OfProgram (λ tree. OfHostPrograms request lines (read ++ record { name = name; text = bytes } ∷ []) names)
+    bytes)
+
+-- what comes of a configuration, or of none: each program that it names is read once
+abbrev pub OfConfig : HostRequest → Option (List SessionLine) → Coming
+OfConfig request None = Only (at_once (ByRefusal (refusal.Input input.Config)))
+OfConfig request (Some lines) = OfHostPrograms request lines [] (programs_of lines)
+
+-- the text of sessions that were hosted is printed
+abbrev pub hosted_verdict : List HostEnd → List SessionState → Option NetFault → Verdict
+hosted_verdict ends sessions stopped =
+    record { steps = Prints (hosted_text ends sessions) ∷ []; closing = reflected_closing false stopped }
+
+-- these files are put
+abbrev pub put_steps : List Put → List Step
+put_steps puts = map (λ put. Puts put.name put.bytes) puts
+
+-- What comes of sessions after their host. Each is put first, and want of memory comes in place of no put. Then their text is printed, and only that may want memory.
+abbrev pub OfHostEnds : List (List ℕ) → List HostEnd → List SessionState → Option NetFault → Coming
+OfHostEnds logs ends sessions stopped =
+    ThenAll (put_steps (session_puts logs sessions)) (Free (Only (hosted_verdict ends sessions stopped)))
+
 -- ---- drill
 
 -- what comes of a drill that has left this
@@ -496,23 +646,32 @@ drilled_verdict request session snapshots total agree = fine (drilled_steps requ
 
 -- what comes of a command: a row for each
 abbrev pub OfCommand : Command → Coming
-OfCommand (Stamp script from log) = OfFile input.Script (ask_file script most_script) (λ bytes. OfScript from log (script_of bytes))
-OfCommand (Check program) = OfFile input.Program (ask_file program most_program_bytes) (OfProgram (λ tree. Only (count_verdict tree)))
+OfCommand (Stamp script from log) =
+    OfFile input.Script (ask_file script most_script) (λ bytes. OfScript from log (script_of bytes))
+OfCommand (Check program) = OfFile input.Program (ask_file program most_program_bytes)
+    (OfProgram (λ tree. Only (count_verdict tree)))
 OfCommand (Replay request) =
     OfFile input.Program (ask_file request.program most_program_bytes) (λ bytes. OfProgram (OfTree request bytes) bytes)
 OfCommand (Inspect request) =
-    OfFile input.Program (ask_file request.program most_program_bytes) (λ bytes. OfProgram (OfInspect request bytes) bytes)
+    OfFile input.Program (ask_file request.program most_program_bytes) (λ bytes.
+    OfProgram (OfInspect request bytes) bytes)
 OfCommand (Trace request) =
-    OfFile input.Program (ask_file request.program most_program_bytes) (λ bytes. OfProgram (OfTrace request bytes) bytes)
+    OfFile input.Program (ask_file request.program most_program_bytes) (λ bytes.
+    OfProgram (OfTrace request bytes) bytes)
 -- any journal may be counted, whichever session it is of
-OfCommand (Votes log) = OfFile input.Log (ask_file log most_log) (OfLog (λ source. Only (votes_verdict source.stored.log)))
-OfCommand (Hub script logs) = OfFile input.Script (ask_file script most_script) (λ bytes. OfHubScript logs (hub_script_of bytes))
+OfCommand (Votes log) = OfFile input.Log (ask_file log most_log)
+    (OfLog (λ source. Only (votes_verdict source.stored.log)))
+OfCommand (Hub script logs) =
+    OfFile input.Script (ask_file script most_script) (λ bytes. OfHubScript logs (hub_script_of bytes))
 OfCommand (Join request) =
     OfFile input.Program (ask_file request.program most_program_bytes) (λ bytes. OfProgram (OfJoin request bytes) bytes)
 OfCommand (Live request) =
     OfFile input.Program (ask_file request.program most_program_bytes) (λ bytes. OfProgram (OfLive request bytes) bytes)
 OfCommand (Reflect request) =
-    OfFile input.Program (ask_file request.program most_program_bytes) (λ bytes. OfProgram (λ tree. OfReflect request bytes) bytes)
+    OfFile input.Program (ask_file request.program most_program_bytes) (λ bytes.
+    OfProgram (λ tree. OfReflect request bytes) bytes)
+OfCommand (Host request) = OfFile input.Config (ask_file request.config most_config) (λ bytes.
+    OfConfig request (config_of bytes))
 -- a drill reads no file
 OfCommand (Drill request) = Only (at_once (ByDrill request))
 

@@ -1,5 +1,5 @@
 -- What the parts of a command's work make of what comes.
-use Rattle.std.specs.Prelude.{◌≡◌, ◌≤◌, ℕ, ⊤, true, false, List, Option, Some, None, option_map, Result, Ok, Err}
+use Rattle.std.specs.Prelude.{◌≡◌, ◌+◌, ◌≤◌, ℕ, ⊤, true, false, List, [], ◌∷◌, ◌++◌, length, Option, Some, None, option_map, Result, Ok, Err}
 use Rattle.tea_base.specs.Limits.{most_snapshot}
 use Rattle.model_tree.specs.Bounds.{most_program_bytes}
 use Rattle.persist_json.specs.JsonOf.{most_json}
@@ -8,7 +8,7 @@ use Rattle.run_steps.specs.Steps.{Ask}
 use Rattle.command_outcome.specs.declared.outcome.Input.{Input}
 use Rattle.command_outcome.specs.declared.outcome.Input.TheVariants as input
 use Rattle.command_words.specs.declared.words.Command.{Command}
-use Rattle.command_words.specs.declared.words.Command.TheVariants.{Join, Live, Reflect, Drill}
+use Rattle.command_words.specs.declared.words.Command.TheVariants.{Join, Live, Reflect, Host, Drill}
 use Rattle.reflector_core.specs.Stored.{session_of}
 use Rattle.session_log.specs.Stored.{PlainStored, IsStored, plain_stored}
 use Rattle.session_log.specs.declared.stored.Stored.{Stored}
@@ -28,6 +28,11 @@ use Rattle.commands.specs.declared.tracing.TraceWait.TheVariants as trace_wait
 use Rattle.commands.specs.declared.visit.JoinWait.TheVariants as join_wait
 use Rattle.commands.specs.declared.live.LiveWait.TheVariants as live_wait
 use Rattle.commands.specs.declared.reflection.ReflectWait.TheVariants as reflect_wait
+use Rattle.commands.specs.declared.hosting.HostProgramWait.{HostProgramWait}
+use Rattle.commands.specs.declared.hosting.HostWait.TheVariants as host_wait
+use Rattle.host_config.specs.Config.{AreFew, AreNamed, config_of, most_sessions}
+use Rattle.command_host.specs.declared.hosting.Hosting.{Hosting}
+use Rattle.command_host.specs.Hosting.{log_names}
 use Rattle.command_stamp.specs.Script.{script_of}
 use Rattle.command_hub.specs.HubScript.{hub_script_of}
 use Rattle.command_inspect.specs.Queries.{queries_of}
@@ -39,10 +44,10 @@ use Rattle.view_script.specs.ViewScript.{view_script_of}
 use Rattle.commands.specs.declared.work.Next.{Next}
 use Rattle.commands.specs.declared.work.Next.TheVariants as next
 use Rattle.view_script.specs.PlainLine.{plain_lines}
-use Rattle.command_words.specs.Bounds.{AreConnections, IsBounded, IsBoundedDrill, IsBoundedInspect, IsBoundedJoin, IsBoundedLive, IsBoundedReflect, IsBoundedTrace}
+use Rattle.command_words.specs.Bounds.{AreConnections, IsBounded, IsBoundedDrill, IsBoundedHost, IsBoundedInspect, IsBoundedJoin, IsBoundedLive, IsBoundedReflect, IsBoundedTrace}
 use Rattle.command_outcome.specs.Outcome.{steps_of}
 use Rattle.commands.specs.Keeping.{OfFoundingLog}
-use Rattle.commands.specs.Verdict.{Verdict, PlainKeeping, PlainLive, PlainReflection, PlainVisit, ByDrill, ByKeeping, ByLive, ByRefusal, ByVisit, ByWant, Coming, Only, OfFile, OfFounded, OfHubScript, OfInspect, OfJoin, OfJson, OfLive, OfTimeLine, OfInspectedLog, OfProgram, OfQueries, OfLog, OfRecorded, OfReflect, OfReflected, OfScript, OfServed, OfSnapshot, OfTree, PlainSource, OfViewScript, ask_file, at_once, count_verdict, fine, founded, keeps_few, live_of, most_log, most_queries, most_script, session_id_of, stamp_verdict, visit_to, OfTrace, OfTraced, OfTracedLog, votes_verdict, OfReady}
+use Rattle.commands.specs.Verdict.{Verdict, PlainHosting, PlainKeeping, PlainLive, PlainReflection, PlainVisit, ByDrill, ByKeeping, ByLive, ByRefusal, ByVisit, ByWant, Coming, Only, OfConfig, OfFile, OfFounded, OfHostPrograms, OfHostReady, OfHubScript, OfInspect, OfJoin, OfJson, OfLive, OfTimeLine, OfInspectedLog, OfProgram, OfQueries, OfLog, OfRecorded, OfReflect, OfReflected, OfScript, OfServed, OfSnapshot, OfTree, PlainSource, OfViewScript, ask_file, at_once, count_verdict, fine, founded, keeps_few, live_of, most_config, most_log, most_queries, most_script, session_id_of, stamp_verdict, visit_to, OfTrace, OfTraced, OfTracedLog, votes_verdict, OfReady}
 
 -- ---- a command that waits for a file
 
@@ -73,6 +78,8 @@ input_of (waiting.Reflect (reflect_wait.Program request)) = input.Program
 input_of (waiting.Reflect (reflect_wait.Value wait)) = input.Persisted
 input_of (waiting.Reflect (reflect_wait.Log wait)) = input.Log
 input_of (waiting.Reflect (reflect_wait.Founding wait)) = input.Log
+input_of (waiting.Host (host_wait.Config request)) = input.Config
+input_of (waiting.Host (host_wait.Program wait)) = input.Program
 
 -- the name of its file
 abbrev pub file_of : Waiting → List ℕ
@@ -101,6 +108,8 @@ file_of (waiting.Reflect (reflect_wait.Program request)) = request.program
 file_of (waiting.Reflect (reflect_wait.Value wait)) = wait.persisted
 file_of (waiting.Reflect (reflect_wait.Log wait)) = wait.from
 file_of (waiting.Reflect (reflect_wait.Founding wait)) = wait.from
+file_of (waiting.Host (host_wait.Config request)) = request.config
+file_of (waiting.Host (host_wait.Program wait)) = wait.program
 
 -- the most bytes of an input
 abbrev pub most_bytes : Input → ℕ
@@ -110,6 +119,7 @@ most_bytes input.Log = most_log
 most_bytes input.Snapshot = most_snapshot
 most_bytes input.Persisted = most_json
 most_bytes input.Queries = most_queries
+most_bytes input.Config = most_config
 -- a journal is opened by its store
 most_bytes input.Journal = 0
 -- these are no files
@@ -161,40 +171,56 @@ IsBoundedKeeping keeping = AreConnections keeping.connections × IsOpening keepi
 -- what comes of its bytes
 abbrev pub next_of : Waiting → List ℕ → Coming
 next_of (waiting.Stamp (stamp_wait.Script script from log)) bytes = OfScript from log (script_of bytes)
-next_of (waiting.Stamp (stamp_wait.Log wait)) bytes = OfLog (λ source. Only (stamp_verdict (session_of source.stored) wait.log wait.requests)) bytes
+next_of (waiting.Stamp (stamp_wait.Log wait)) bytes =
+    OfLog (λ source. Only (stamp_verdict (session_of source.stored) wait.log wait.requests)) bytes
 next_of (waiting.Check program) bytes = OfProgram (λ tree. Only (count_verdict tree)) bytes
 next_of (waiting.Replay (replay_wait.Program request)) bytes = OfProgram (OfTree request bytes) bytes
-next_of (waiting.Replay (replay_wait.Log wait)) bytes = OfLog (OfRecorded wait.request wait.text (checked_tree wait.program)) bytes
+next_of (waiting.Replay (replay_wait.Log wait)) bytes =
+    OfLog (OfRecorded wait.request wait.text (checked_tree wait.program)) bytes
 next_of (waiting.Replay (replay_wait.Value wait)) bytes =
     let read = wait.read in
-    OfJson (λ v. OfFounded read.request read.text (plain_source read.source) (founded (checked_tree read.program) v)) bytes
+    OfJson (λ v. OfFounded read.request read.text (plain_source read.source) (founded (checked_tree read.program) v))
+    bytes
 next_of (waiting.Replay (replay_wait.Snapshot wait)) bytes =
     OfSnapshot wait.request (checked_tree wait.recording.program) wait.recording.id.0 wait.recording.log.entries bytes
 next_of (waiting.Inspect (inspect_wait.Program request)) bytes = OfProgram (OfInspect request bytes) bytes
-next_of (waiting.Inspect (inspect_wait.Log wait)) bytes = OfLog (OfInspectedLog wait.request wait.text (checked_tree wait.program)) bytes
+next_of (waiting.Inspect (inspect_wait.Log wait)) bytes =
+    OfLog (OfInspectedLog wait.request wait.text (checked_tree wait.program)) bytes
 next_of (waiting.Inspect (inspect_wait.Value wait)) bytes =
     let read = wait.read in
-    OfJson (λ v. OfTimeLine read.request read.text (plain_source read.source) (founded (checked_tree read.program) v)) bytes
-next_of (waiting.Inspect (inspect_wait.Queries wait)) bytes = OfQueries (founding_of wait.line.program) wait.line.id wait.line.entries (queries_of bytes)
+    OfJson (λ v. OfTimeLine read.request read.text (plain_source read.source) (founded (checked_tree read.program) v))
+    bytes
+next_of (waiting.Inspect (inspect_wait.Queries wait)) bytes =
+    OfQueries (founding_of wait.line.program) wait.line.id wait.line.entries (queries_of bytes)
 next_of (waiting.Trace (trace_wait.Program request)) bytes = OfProgram (OfTrace request bytes) bytes
-next_of (waiting.Trace (trace_wait.Log wait)) bytes = OfLog (OfTracedLog wait.request wait.text (checked_tree wait.program)) bytes
+next_of (waiting.Trace (trace_wait.Log wait)) bytes =
+    OfLog (OfTracedLog wait.request wait.text (checked_tree wait.program)) bytes
 next_of (waiting.Trace (trace_wait.Value wait)) bytes =
     let read = wait.read in
-    OfJson (λ v. OfTraced read.request read.text (plain_source read.source) (founded (checked_tree read.program) v)) bytes
+    OfJson (λ v. OfTraced read.request read.text (plain_source read.source) (founded (checked_tree read.program) v))
+    bytes
 next_of (waiting.Votes log) bytes = OfLog (λ source. Only (votes_verdict source.stored.log)) bytes
 next_of (waiting.Hub script logs) bytes = OfHubScript logs (hub_script_of bytes)
 next_of (waiting.Join (join_wait.Program request)) bytes = OfProgram (OfJoin request bytes) bytes
-next_of (waiting.Join (join_wait.Script wait)) bytes = OfViewScript wait.request wait.text (checked_tree wait.program) (view_script_of bytes)
+next_of (waiting.Join (join_wait.Script wait)) bytes =
+    OfViewScript wait.request wait.text (checked_tree wait.program) (view_script_of bytes)
 next_of (waiting.Join (join_wait.Value wait)) bytes =
     let read = wait.read in
-    OfJson (λ v. Only (at_once (ByVisit (visit_to read.request read.text (plain_lines wait.script) (founded (checked_tree read.program) v))))) bytes
+    OfJson (λ v. Only (at_once (ByVisit
+    (visit_to read.request read.text (plain_lines wait.script) (founded (checked_tree read.program) v))))) bytes
 next_of (waiting.Live (live_wait.Program request)) bytes = OfProgram (OfLive request bytes) bytes
 next_of (waiting.Live (live_wait.Value wait)) bytes =
-    let read = wait.read in OfJson (λ v. Only (at_once (ByLive (live_of read.request read.text (founded (checked_tree read.program) v))))) bytes
+    let read = wait.read in OfJson (λ v.
+    Only (at_once (ByLive (live_of read.request read.text (founded (checked_tree read.program) v))))) bytes
 next_of (waiting.Reflect (reflect_wait.Program request)) bytes = OfProgram (λ tree. OfReflect request bytes) bytes
-next_of (waiting.Reflect (reflect_wait.Value wait)) bytes = OfJson (λ v. OfServed wait.request (session_id_of wait.request.name wait.text v)) bytes
+next_of (waiting.Reflect (reflect_wait.Value wait)) bytes =
+    OfJson (λ v. OfServed wait.request (session_id_of wait.request.name wait.text v)) bytes
 next_of (waiting.Reflect (reflect_wait.Log wait)) bytes = OfLog (OfReflected wait.request wait.id.0) bytes
 next_of (waiting.Reflect (reflect_wait.Founding wait)) bytes = OfLog (OfFoundingLog (plain_keeping wait.keeping)) bytes
+next_of (waiting.Host (host_wait.Config request)) bytes = OfConfig request (config_of bytes)
+next_of (waiting.Host (host_wait.Program wait)) bytes =
+    OfProgram (λ tree. OfHostPrograms wait.request wait.lines (wait.read ++ record { name = wait.program; text = bytes }
+    ∷ []) wait.later.items) bytes
 
 -- what comes of the files that are read from here on
 abbrev pub Remains : Waiting → Coming
@@ -227,6 +253,12 @@ files_left (waiting.Reflect (reflect_wait.Program request)) = 3
 files_left (waiting.Reflect (reflect_wait.Value wait)) = 2
 files_left (waiting.Reflect (reflect_wait.Log wait)) = 1
 files_left (waiting.Reflect (reflect_wait.Founding wait)) = 1
+files_left (waiting.Host (host_wait.Config request)) = most_sessions + 1
+files_left (waiting.Host (host_wait.Program wait)) = length wait.later.items + 1
+
+-- a host's words are within their bounds, and its sessions have names, and are not none and not too many
+abbrev pub IsBoundedHostWait : HostProgramWait → Type 0
+IsBoundedHostWait wait = IsBoundedHost wait.request × AreNamed wait.lines × AreFew wait.lines
 
 -- its words are within their bounds
 abbrev pub IsBoundedWait : Waiting → Type 0
@@ -254,6 +286,8 @@ IsBoundedWait (waiting.Reflect (reflect_wait.Program request)) = IsBoundedReflec
 IsBoundedWait (waiting.Reflect (reflect_wait.Value wait)) = IsBoundedReflect wait.request
 IsBoundedWait (waiting.Reflect (reflect_wait.Log wait)) = IsBoundedReflect wait.request
 IsBoundedWait (waiting.Reflect (reflect_wait.Founding wait)) = AreConnections wait.keeping.connections
+IsBoundedWait (waiting.Host (host_wait.Config request)) = IsBoundedHost request
+IsBoundedWait (waiting.Host (host_wait.Program wait)) = IsBoundedHostWait wait
 
 -- the visit that is asked for
 abbrev pub visit_of : VisitRequest → PlainVisit
@@ -267,7 +301,12 @@ visit_of request = record {
 
 -- what a live view is asked to take part in
 abbrev pub plain_live : LiveStart → PlainLive
-plain_live start = record { founding = founding_of start.program; id = start.id.0; view = start.view; address = start.address }
+plain_live start = record {
+  founding = founding_of start.program;
+  id = start.id.0;
+  view = start.view;
+  address = start.address;
+}
 
 -- the reflection that is asked for
 abbrev pub plain_reflection : Reflection → PlainReflection
@@ -279,9 +318,31 @@ plain_reflection reflection = record {
   log = log_name reflection.log;
 }
 
+-- the sessions that are to be hosted
+abbrev pub plain_hosting : Hosting → PlainHosting
+plain_hosting hosting = record {
+  ids = hosting.ids;
+  address = hosting.address;
+  connections = hosting.connections;
+  logs = log_names hosting.logs;
+}
+
+-- sessions are not none, and not more than a host may have
+abbrev pub AreHosted : List SessionId → Type 0
+AreHosted ids = (1 ≤ length ids) × (length ids ≤ most_sessions)
+
+-- a host accepts from 1 to the most links, and has such sessions
+abbrev pub IsBoundedHosting : Hosting → Type 0
+IsBoundedHosting hosting = AreConnections hosting.connections × AreHosted hosting.ids
+
 -- a time line is that of a recorded session, keeps a world after each so many entries, and not too many worlds
 pub record IsTimeLineOf (recording : Recording) (every : ℕ) (line : LineView) : Type 0 where
-  pub is : line ≡ record { program = recording.program; id = recording.id.0; entries = recording.log.entries; every = every }
+  pub is : line ≡ record {
+    program = recording.program;
+    id = recording.id.0;
+    entries = recording.log.entries;
+    every = every;
+  }
   pub few : keeps_few every recording.log.entries ≡ true
 
 -- the time line that was made, or that it would keep too many worlds; where it ran out of memory nothing is said
@@ -299,6 +360,7 @@ ComesNext (next.Visits request) = Only (at_once (ByVisit (visit_of request)))
 ComesNext (next.Lives start) = Only (at_once (ByLive (plain_live start)))
 ComesNext (next.Reflects reflection) = OfReady (plain_reflection reflection)
 ComesNext (next.Keeps keeping) = Only (at_once (ByKeeping (plain_keeping keeping)))
+ComesNext (next.Hosts hosting) = OfHostReady (plain_hosting hosting)
 ComesNext (next.Drills request) = Only (at_once (ByDrill request))
 ComesNext next.WantOfMemory = Only (at_once ByWant)
 
@@ -308,6 +370,7 @@ IsBoundedNext (next.Visits request) = 1 ≤ request.view
 IsBoundedNext (next.Lives start) = 1 ≤ start.view
 IsBoundedNext (next.Reflects reflection) = AreConnections reflection.connections
 IsBoundedNext (next.Keeps keeping) = IsBoundedKeeping keeping
+IsBoundedNext (next.Hosts hosting) = IsBoundedHosting hosting
 IsBoundedNext (next.Drills request) = IsBoundedDrill request
 IsBoundedNext other = ⊤
 
@@ -329,10 +392,11 @@ abbrev pub AsksNoLive : Option Command → Type 0
 AsksNoLive (Some (Live request)) = ⊥
 AsksNoLive command = ⊤
 
--- the words ask for a command that goes on as the run of a view or of a reflector, or as a drill, and may wait then
+-- the words ask for a command that goes on as the run of a view, of a reflector or of a host, or as a drill, and may wait then
 abbrev pub RunsOn : Option Command → Type 0
 RunsOn (Some (Join request)) = ⊤
 RunsOn (Some (Live request)) = ⊤
 RunsOn (Some (Reflect request)) = ⊤
+RunsOn (Some (Host request)) = ⊤
 RunsOn (Some (Drill request)) = ⊤
 RunsOn command = ⊥

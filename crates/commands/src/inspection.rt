@@ -74,7 +74,8 @@ pub enum InspectWait {
 
 /// What queries print of a recorded session.
 fn answer(alloc: Global, line: &TimeLine, queries: &Queries) -> Next
-    ensures leads { Leads result (Free (Only (inspect_verdict (founding_of line.now.program) line.now.id line.now.entries queries.now))) }
+    ensures leads { Leads result
+        (Free (Only (inspect_verdict (founding_of line.now.program) line.now.id line.now.entries queries.now))) }
     ensures bounded { IsBoundedNext result }
     ensures fewer { reads_left result < 1 }
 {
@@ -89,7 +90,8 @@ fn answer(alloc: Global, line: &TimeLine, queries: &Queries) -> Next
 
 /// What comes of the bytes of queries.
 fn read_queries(alloc: Global, line: &TimeLine, bytes: &[u8]) -> Next
-    ensures leads { Leads result (Free (OfQueries (founding_of line.now.program) line.now.id line.now.entries (queries_of bytes.now))) }
+    ensures leads { Leads result
+        (Free (OfQueries (founding_of line.now.program) line.now.id line.now.entries (queries_of bytes.now))) }
     ensures bounded { IsBoundedNext result }
     ensures fewer { reads_left result < 1 }
 {
@@ -102,7 +104,8 @@ fn read_queries(alloc: Global, line: &TimeLine, bytes: &[u8]) -> Next
 
 /// The same, of an inspection that waited for them.
 fn take_queries(alloc: Global, wait: QueriesWait, bytes: &[u8]) -> Next
-    ensures leads { Leads result (Free (OfQueries (founding_of wait.line.program) wait.line.id wait.line.entries (queries_of bytes.now))) }
+    ensures leads { Leads result
+        (Free (OfQueries (founding_of wait.line.program) wait.line.id wait.line.entries (queries_of bytes.now))) }
     ensures bounded { IsBoundedNext result }
     ensures fewer { reads_left result < 1 }
 {
@@ -125,7 +128,8 @@ fn time_line_of(alloc: Global, recording: Recording, every: u32) -> Result<TimeL
 /// What comes of a recorded session: its time line is made, and then its queries are read.
 fn keep(alloc: Global, recording: Recording, every: u32, queries: Text) -> Next
     requires { 1 ≤ every }
-    ensures leads { Leads result (Free (OfKeyframes every queries (founding_of recording.program) recording.id.0 recording.log.entries)) }
+    ensures leads { Leads result
+        (Free (OfKeyframes every queries (founding_of recording.program) recording.id.0 recording.log.entries)) }
     ensures bounded { IsBoundedNext result }
     ensures fewer { reads_left result < 2 }
 {
@@ -163,7 +167,9 @@ fn keep_own(
 fn found(alloc: Global, read: ReadInspection, persisted: Value) -> Next
     requires words { IsBoundedInspect read.request }
     requires fit { CanBeSaved (plain persisted) }
-    ensures leads { Leads result (Free (OfTimeLine read.request read.text (plain_source read.source) (founded (checked_tree read.program) (plain persisted)))) }
+    ensures leads { Leads result
+        (Free (OfTimeLine read.request read.text (plain_source read.source)
+        (founded (checked_tree read.program) (plain persisted)))) }
     ensures bounded { IsBoundedNext result }
     ensures fewer { reads_left result < 2 }
 {
@@ -186,7 +192,8 @@ fn found(alloc: Global, read: ReadInspection, persisted: Value) -> Next
 /// What comes of an inspection that has read its program and its log: its persisted value is read, where it has one.
 fn record(alloc: Global, mut read: ReadInspection) -> Next
     requires { IsBoundedInspect read.request }
-    ensures leads { Leads result (Free (OfInspectedLog read.request read.text (checked_tree read.program) (plain_source read.source))) }
+    ensures leads { Leads result
+        (Free (OfInspectedLog read.request read.text (checked_tree read.program) (plain_source read.source))) }
     ensures bounded { IsBoundedNext result }
     ensures fewer { reads_left result < 3 }
 {
@@ -220,7 +227,8 @@ fn take_program(alloc: Global, request: InspectRequest, text: Blob) -> Next
 /// What comes of a log's bytes.
 fn take_log(alloc: Global, wait: InspectLogWait, bytes: &[u8]) -> Next
     requires { IsBoundedInspect wait.request }
-    ensures leads { Leads result (Free (OfLog (OfInspectedLog wait.request wait.text (checked_tree wait.program)) bytes.now)) }
+    ensures leads { Leads result
+        (Free (OfLog (OfInspectedLog wait.request wait.text (checked_tree wait.program)) bytes.now)) }
     ensures bounded { IsBoundedNext result }
     ensures fewer { reads_left result < 3 }
 {
@@ -248,7 +256,9 @@ fn take_log(alloc: Global, wait: InspectLogWait, bytes: &[u8]) -> Next
 fn take_value(alloc: Global, wait: InspectValueWait, bytes: &[u8]) -> Next
     requires { IsBoundedInspect wait.read.request }
     ensures leads { let read = wait.read in
-        Leads result (Free (OfJson (λ v. OfTimeLine read.request read.text (plain_source read.source) (founded (checked_tree read.program) v)) bytes.now)) }
+        Leads result (Free (OfJson (λ v.
+        OfTimeLine read.request read.text (plain_source read.source) (founded (checked_tree read.program) v))
+        bytes.now)) }
     ensures bounded { IsBoundedNext result }
     ensures fewer { reads_left result < 2 }
 {

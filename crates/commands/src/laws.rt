@@ -2,7 +2,7 @@
 ghost use Rattle.commands.specs.Laws.{IsFunction, LogsTellTheirEvents, SnapshotsAgree, SomeVerdictComes};
 
 use model_lang::one_reading;
-use world::resumed_follows;
+use replica::resumed_follows;
 
 /// The verdicts that come of a command are one, step by step, as long as their steps were told the same, but for want of memory
 /// and for the place in a text that is no program.

@@ -59,7 +59,9 @@ pub struct LiveStart {
 fn take_part(read: LiveRead, persisted: Value) -> Next
     requires words { IsBoundedLive read.request }
     requires fit { CanBeSaved (plain persisted) }
-    ensures leads { Leads result (Only (at_once (ByLive (live_of read.request read.text (founded (checked_tree read.program) (plain persisted)))))) }
+    ensures leads { Leads result
+        (Only (at_once (ByLive (live_of read.request read.text
+        (founded (checked_tree read.program) (plain persisted)))))) }
     ensures bounded { IsBoundedNext result }
     ensures fewer { reads_left result < 1 }
 {
@@ -143,7 +145,8 @@ fn take_program(alloc: Global, request: LiveRequest, text: Blob) -> Next
 fn take_value(alloc: Global, wait: LiveValueWait, bytes: &[u8]) -> Next
     requires { IsBoundedLive wait.read.request }
     ensures leads { let read = wait.read in
-        Leads result (Free (OfJson (λ v. Only (at_once (ByLive (live_of read.request read.text (founded (checked_tree read.program) v))))) bytes.now)) }
+        Leads result (Free (OfJson (λ v.
+        Only (at_once (ByLive (live_of read.request read.text (founded (checked_tree read.program) v))))) bytes.now)) }
     ensures bounded { IsBoundedNext result }
     ensures fewer { reads_left result < 1 }
 {

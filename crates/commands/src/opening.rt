@@ -27,7 +27,7 @@ fn read_named(alloc: Global, id: &SessionId, bytes: &[u8]) -> Result<Source, Log
     ensures sound { IfOk result (λ source. IsStored (plain_stored source.stored)) }
     ensures bad { result ≡ Err LogFault.BadLog → (source : PlainSource) → ¬ IsLog bytes.now source }
 {
-    what_is_read_may_be_opened();
+    what_is_read_may_be_opened(); // for the prover
     match read_journal(alloc, id, bytes) {
         Ok(read) => Ok(Source {
             named: Some(*id),
@@ -48,13 +48,10 @@ pub(crate) fn read_log(alloc: Global, bytes: &[u8]) -> Result<Source, LogFault>
 {
     match session_of(bytes) {
         Some(id) => read_named(alloc, &id, bytes),
-        None => match decode_stored(alloc, bytes) {
-            Ok(stored) => Ok(Source {
-                named: None,
-                stored,
-            }),
-            Err(fault) => Err(fault),
-        },
+        None => Ok(Source {
+            named: None,
+            stored: decode_stored(alloc, bytes)?,
+        }),
     }
 }
 

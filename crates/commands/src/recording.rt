@@ -97,7 +97,8 @@ fn tell(
     start: Option<PlainWorld>,
 ) -> Result<Outcome, WantOfMemory>
     requires time { request.time < time_limit }
-    requires valid { IfSome start (λ world. Valid (field_counts (checked_tree recording.program)) (world_record world)) }
+    requires valid { IfSome start (λ world.
+        Valid (field_counts (checked_tree recording.program)) (world_record world)) }
     requires early { IfSome start (λ world. world.time ≤ request.time) }
     ensures { IfOk result (λ outcome. fine (steps_of outcome.files outcome.text)
         ≡ world_verdict request (world_at recording request.time (option_map world_record start))) }
@@ -124,9 +125,11 @@ fn finish(
     start: Option<PlainWorld>,
 ) -> Next
     requires time { request.time < time_limit }
-    requires valid { IfSome start (λ world. Valid (field_counts (checked_tree recording.program)) (world_record world)) }
+    requires valid { IfSome start (λ world.
+        Valid (field_counts (checked_tree recording.program)) (world_record world)) }
     requires early { IfSome start (λ world. world.time ≤ request.time) }
-    ensures leads { Leads result (Free (Only (world_verdict request (world_at recording request.time (option_map world_record start))))) }
+    ensures leads { Leads result
+        (Free (Only (world_verdict request (world_at recording request.time (option_map world_record start))))) }
     ensures bounded { IsBoundedNext result }
     ensures fewer { reads_left result < 1 }
 {
@@ -157,7 +160,8 @@ fn take_program(alloc: Global, request: ReplayRequest, text: Blob) -> Next
 /// How a replay begins that has read its program and its log.
 fn start(alloc: Global, mut request: ReplayRequest, recording: Recording) -> Next
     requires { IsBounded request }
-    ensures leads { Leads result (Free (Starts request.from request (founding_of recording.program) recording.id.0 recording.log.entries)) }
+    ensures leads { Leads result
+        (Free (Starts request.from request (founding_of recording.program) recording.id.0 recording.log.entries)) }
     ensures bounded { IsBoundedNext result }
     ensures fewer { reads_left result < 2 }
 {
@@ -194,7 +198,9 @@ fn start_own(
 fn found(alloc: Global, read: ReadReplay, persisted: Value) -> Next
     requires words { IsBounded read.request }
     requires fit { CanBeSaved (plain persisted) }
-    ensures leads { Leads result (Free (OfFounded read.request read.text (plain_source read.source) (founded (checked_tree read.program) (plain persisted)))) }
+    ensures leads { Leads result
+        (Free (OfFounded read.request read.text (plain_source read.source)
+        (founded (checked_tree read.program) (plain persisted)))) }
     ensures bounded { IsBoundedNext result }
     ensures fewer { reads_left result < 2 }
 {
@@ -217,7 +223,8 @@ fn found(alloc: Global, read: ReadReplay, persisted: Value) -> Next
 /// What comes of a replay that has read its program and its log: its persisted value is read, where it has one.
 fn record(alloc: Global, mut read: ReadReplay) -> Next
     requires { IsBounded read.request }
-    ensures leads { Leads result (Free (OfRecorded read.request read.text (checked_tree read.program) (plain_source read.source))) }
+    ensures leads { Leads result
+        (Free (OfRecorded read.request read.text (checked_tree read.program) (plain_source read.source))) }
     ensures bounded { IsBoundedNext result }
     ensures fewer { reads_left result < 3 }
 {
@@ -232,7 +239,8 @@ fn record(alloc: Global, mut read: ReadReplay) -> Next
 /// What comes of a log's bytes.
 fn take_log(alloc: Global, wait: LogWait, bytes: &[u8]) -> Next
     requires { IsBounded wait.request }
-    ensures leads { Leads result (Free (OfLog (OfRecorded wait.request wait.text (checked_tree wait.program)) bytes.now)) }
+    ensures leads { Leads result
+        (Free (OfLog (OfRecorded wait.request wait.text (checked_tree wait.program)) bytes.now)) }
     ensures bounded { IsBoundedNext result }
     ensures fewer { reads_left result < 3 }
 {
@@ -260,7 +268,9 @@ fn take_log(alloc: Global, wait: LogWait, bytes: &[u8]) -> Next
 fn take_value(alloc: Global, wait: ReplayValueWait, bytes: &[u8]) -> Next
     requires { IsBounded wait.read.request }
     ensures leads { let read = wait.read in
-        Leads result (Free (OfJson (λ v. OfFounded read.request read.text (plain_source read.source) (founded (checked_tree read.program) v)) bytes.now)) }
+        Leads result (Free (OfJson (λ v.
+        OfFounded read.request read.text (plain_source read.source) (founded (checked_tree read.program) v))
+        bytes.now)) }
     ensures bounded { IsBoundedNext result }
     ensures fewer { reads_left result < 2 }
 {
@@ -275,7 +285,9 @@ fn take_value(alloc: Global, wait: ReplayValueWait, bytes: &[u8]) -> Next
 fn resume(alloc: Global, request: ReplayRequest, recording: Recording, world: PlainWorld) -> Next
     requires time { request.time < time_limit }
     requires valid { Valid (field_counts (checked_tree recording.program)) (world_record world) }
-    ensures leads { Leads result (Free (Only (resumed_verdict request (checked_tree recording.program) recording.log.entries (world_record world)))) }
+    ensures leads { Leads result
+        (Free (Only (resumed_verdict request (checked_tree recording.program) recording.log.entries
+        (world_record world)))) }
     ensures bounded { IsBoundedNext result }
     ensures fewer { reads_left result < 1 }
 {
@@ -288,7 +300,9 @@ fn resume(alloc: Global, request: ReplayRequest, recording: Recording, world: Pl
 /// What comes of a snapshot's bytes.
 fn take_snapshot(alloc: Global, wait: SnapshotWait, bytes: &[u8]) -> Next
     requires { IsBounded wait.request }
-    ensures leads { Leads result (Free (OfSnapshot wait.request (checked_tree wait.recording.program) wait.recording.id.0 wait.recording.log.entries bytes.now)) }
+    ensures leads { Leads result
+        (Free (OfSnapshot wait.request
+        (checked_tree wait.recording.program) wait.recording.id.0 wait.recording.log.entries bytes.now)) }
     ensures bounded { IsBoundedNext result }
     ensures fewer { reads_left result < 1 }
 {

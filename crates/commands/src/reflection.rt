@@ -133,7 +133,8 @@ fn open(alloc: Global, mut request: ReflectRequest, id: SessionId) -> Next
 fn found_with(mut keeping: Keeping, stored: Stored) -> Next
     requires links { AreConnections keeping.connections }
     requires stored { IsStored (plain_stored stored) }
-    ensures leads { Leads result (Only (at_once (ByKeeping (founded_with (plain_keeping keeping) (plain_stored stored))))) }
+    ensures leads { Leads result
+        (Only (at_once (ByKeeping (founded_with (plain_keeping keeping) (plain_stored stored))))) }
     ensures bounded { IsBoundedNext result }
     ensures fewer { reads_left result < 1 }
 {
@@ -183,7 +184,8 @@ fn found(alloc: Global, request: ReflectRequest, text: &Blob, persisted: &Value)
 /// What comes of a reflector that has its program and its address: its persisted value is read, where it has one.
 fn begin(alloc: Global, mut request: ReflectRequest, text: Blob) -> Next
     requires { IsBoundedReflect request }
-    ensures leads { Leads result (Free (OfPersisted request.persisted (λ v. OfServed request (session_id_of request.name text v)))) }
+    ensures leads { Leads result
+        (Free (OfPersisted request.persisted (λ v. OfServed request (session_id_of request.name text v)))) }
     ensures bounded { IsBoundedNext result }
     ensures fewer { reads_left result < 3 }
 {
@@ -240,7 +242,8 @@ fn take_program(alloc: Global, request: ReflectRequest, text: Blob) -> Next
 /// What comes of the bytes of a persisted value.
 fn take_value(alloc: Global, wait: ReflectValueWait, bytes: &[u8]) -> Next
     requires { IsBoundedReflect wait.request }
-    ensures leads { Leads result (Free (OfJson (λ v. OfServed wait.request (session_id_of wait.request.name wait.text v)) bytes.now)) }
+    ensures leads { Leads result
+        (Free (OfJson (λ v. OfServed wait.request (session_id_of wait.request.name wait.text v)) bytes.now)) }
     ensures bounded { IsBoundedNext result }
     ensures fewer { reads_left result < 2 }
 {

@@ -45,7 +45,8 @@ fn outcome_of(
     requests: &Requests,
     log: Option<Text>,
 ) -> Result<Outcome, WantOfMemory>
-    ensures { IfOk result (λ outcome. fine (steps_of outcome.files outcome.text) ≡ stamp_verdict opening.plain log requests.now) }
+    ensures { IfOk result (λ outcome. fine (steps_of outcome.files outcome.text)
+        ≡ stamp_verdict opening.plain log requests.now) }
 {
     let (session, replies) = play(alloc, opening, requests.as_slice())?;
     let text = text(alloc, replies.as_slice())?;
@@ -112,7 +113,8 @@ fn stamp(alloc: Global, from: Option<Text>, log: Option<Text>, script: &[u8]) ->
 
 /// What comes of the bytes of the log.
 fn take_log(alloc: Global, wait: StampLogWait, bytes: &[u8]) -> Next
-    ensures leads { Leads result (Free (OfLog (λ source. Only (stamp_verdict (session_of source.stored) wait.log wait.requests)) bytes.now)) }
+    ensures leads { Leads result
+        (Free (OfLog (λ source. Only (stamp_verdict (session_of source.stored) wait.log wait.requests)) bytes.now)) }
     ensures bounded { IsBoundedNext result }
     ensures fewer { reads_left result < 1 }
 {

@@ -72,7 +72,8 @@ fn answer(
     stretch: Stretch,
 ) -> Next
     requires { stretch.to < time_limit }
-    ensures leads { Leads result (Free (Only (trace_verdict (founding_of (arc_value program)) id.0 log.now.entries stretch.from stretch.to))) }
+    ensures leads { Leads result
+        (Free (Only (trace_verdict (founding_of (arc_value program)) id.0 log.now.entries stretch.from stretch.to))) }
     ensures bounded { IsBoundedNext result }
     ensures fewer { reads_left result < 1 }
 {
@@ -88,7 +89,9 @@ fn answer(
 /// What comes of a recorded session, whose program is shared from here on.
 fn share(alloc: Global, recording: Recording, stretch: Stretch) -> Next
     requires { stretch.to < time_limit }
-    ensures leads { Leads result (Free (Only (trace_verdict (founding_of recording.program) recording.id.0 recording.log.entries stretch.from stretch.to))) }
+    ensures leads { Leads result
+        (Free (Only (trace_verdict (founding_of recording.program) recording.id.0 recording.log.entries stretch.from
+        stretch.to))) }
     ensures bounded { IsBoundedNext result }
     ensures fewer { reads_left result < 1 }
 {
@@ -108,7 +111,8 @@ fn share_own(
 ) -> Next
     requires { stretch.to < time_limit }
     ensures leads { Leads result (Free (OfOwn (plain_named named) recording.id.0
-        (Only (trace_verdict (founding_of recording.program) recording.id.0 recording.log.entries stretch.from stretch.to)))) }
+        (Only (trace_verdict (founding_of recording.program) recording.id.0 recording.log.entries stretch.from
+        stretch.to)))) }
     ensures bounded { IsBoundedNext result }
     ensures fewer { reads_left result < 1 }
 {
@@ -122,7 +126,9 @@ fn share_own(
 fn found(alloc: Global, read: ReadTrace, persisted: Value) -> Next
     requires words { IsBoundedTrace read.request }
     requires fit { CanBeSaved (plain persisted) }
-    ensures leads { Leads result (Free (OfTraced read.request read.text (plain_source read.source) (founded (checked_tree read.program) (plain persisted)))) }
+    ensures leads { Leads result
+        (Free (OfTraced read.request read.text (plain_source read.source)
+        (founded (checked_tree read.program) (plain persisted)))) }
     ensures bounded { IsBoundedNext result }
     ensures fewer { reads_left result < 1 }
 {
@@ -149,7 +155,8 @@ fn found(alloc: Global, read: ReadTrace, persisted: Value) -> Next
 /// What comes of a trace that has read its program and its log: its persisted value is read, where it has one.
 fn record(alloc: Global, mut read: ReadTrace) -> Next
     requires { IsBoundedTrace read.request }
-    ensures leads { Leads result (Free (OfTracedLog read.request read.text (checked_tree read.program) (plain_source read.source))) }
+    ensures leads { Leads result
+        (Free (OfTracedLog read.request read.text (checked_tree read.program) (plain_source read.source))) }
     ensures bounded { IsBoundedNext result }
     ensures fewer { reads_left result < 2 }
 {
@@ -182,7 +189,8 @@ fn take_program(alloc: Global, request: TraceRequest, text: Blob) -> Next
 /// What comes of a log's bytes.
 fn take_log(alloc: Global, wait: TraceLogWait, bytes: &[u8]) -> Next
     requires { IsBoundedTrace wait.request }
-    ensures leads { Leads result (Free (OfLog (OfTracedLog wait.request wait.text (checked_tree wait.program)) bytes.now)) }
+    ensures leads { Leads result
+        (Free (OfLog (OfTracedLog wait.request wait.text (checked_tree wait.program)) bytes.now)) }
     ensures bounded { IsBoundedNext result }
     ensures fewer { reads_left result < 2 }
 {
@@ -210,7 +218,9 @@ fn take_log(alloc: Global, wait: TraceLogWait, bytes: &[u8]) -> Next
 fn take_value(alloc: Global, wait: TraceValueWait, bytes: &[u8]) -> Next
     requires { IsBoundedTrace wait.read.request }
     ensures leads { let read = wait.read in
-        Leads result (Free (OfJson (λ v. OfTraced read.request read.text (plain_source read.source) (founded (checked_tree read.program) v)) bytes.now)) }
+        Leads result (Free (OfJson (λ v.
+        OfTraced read.request read.text (plain_source read.source) (founded (checked_tree read.program) v))
+        bytes.now)) }
     ensures bounded { IsBoundedNext result }
     ensures fewer { reads_left result < 1 }
 {

@@ -114,7 +114,9 @@ fn take_program(alloc: Global, request: JoinRequest, text: Blob) -> Next
 fn visit(read: ScriptWait, script: ViewScript, persisted: Value) -> Next
     requires words { IsBoundedJoin read.request }
     requires fit { CanBeSaved (plain persisted) }
-    ensures leads { Leads result (Only (at_once (ByVisit (visit_to read.request read.text (plain_lines script) (founded (checked_tree read.program) (plain persisted)))))) }
+    ensures leads { Leads result
+        (Only (at_once (ByVisit (visit_to read.request read.text (plain_lines script)
+        (founded (checked_tree read.program) (plain persisted)))))) }
     ensures bounded { IsBoundedNext result }
     ensures fewer { reads_left result < 1 }
 {
@@ -136,7 +138,8 @@ fn visit(read: ScriptWait, script: ViewScript, persisted: Value) -> Next
 /// What comes of a view that has its script: its persisted value is read, where it has one.
 fn begin(mut read: ScriptWait, script: ViewScript) -> Next
     requires { IsBoundedJoin read.request }
-    ensures leads { Leads result (OfViewScript read.request read.text (checked_tree read.program) (Some (plain_lines script))) }
+    ensures leads { Leads result
+        (OfViewScript read.request read.text (checked_tree read.program) (Some (plain_lines script))) }
     ensures bounded { IsBoundedNext result }
     ensures fewer { reads_left result < 2 }
 {
@@ -153,7 +156,8 @@ fn begin(mut read: ScriptWait, script: ViewScript) -> Next
 /// What comes of a script's bytes.
 fn take_script(alloc: Global, read: ScriptWait, bytes: &[u8]) -> Next
     requires { IsBoundedJoin read.request }
-    ensures leads { Leads result (Free (OfViewScript read.request read.text (checked_tree read.program) (view_script_of bytes.now))) }
+    ensures leads { Leads result
+        (Free (OfViewScript read.request read.text (checked_tree read.program) (view_script_of bytes.now))) }
     ensures bounded { IsBoundedNext result }
     ensures fewer { reads_left result < 2 }
 {
@@ -168,7 +172,9 @@ fn take_script(alloc: Global, read: ScriptWait, bytes: &[u8]) -> Next
 fn take_value(alloc: Global, wait: JoinValueWait, bytes: &[u8]) -> Next
     requires { IsBoundedJoin wait.read.request }
     ensures leads { let read = wait.read in
-        Leads result (Free (OfJson (λ v. Only (at_once (ByVisit (visit_to read.request read.text (plain_lines wait.script) (founded (checked_tree read.program) v))))) bytes.now)) }
+        Leads result (Free (OfJson (λ v.
+        Only (at_once (ByVisit (visit_to read.request read.text (plain_lines wait.script)
+        (founded (checked_tree read.program) v))))) bytes.now)) }
     ensures bounded { IsBoundedNext result }
     ensures fewer { reads_left result < 1 }
 {

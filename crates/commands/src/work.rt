@@ -9,6 +9,7 @@ ghost use Rattle.command_outcome.specs.declared.outcome.CommandRefusal.TheVarian
 ghost use Rattle.commands.specs.declared.work.Next.TheVariants as next;
 
 use crate::check::check;
+use crate::hosting::HostWait;
 use crate::hub::hub;
 use crate::inspection::InspectWait;
 use crate::live::{LiveStart, LiveWait};
@@ -18,6 +19,7 @@ use crate::stamp::StampWait;
 use crate::tracing::TraceWait;
 use crate::visit::{JoinWait, VisitRequest};
 use crate::votes::votes;
+use command_host::Hosting;
 use command_outcome::{CommandRefusal, Input, Outcome};
 use command_reflect::{Keeping, Reflection};
 use command_words::{Command, DrillRequest};
@@ -42,6 +44,7 @@ pub enum Waiting {
     Join(JoinWait),
     Live(LiveWait),
     Reflect(ReflectWait),
+    Host(HostWait),
 }
 
 /// What a command does next.
@@ -61,6 +64,8 @@ pub enum Next {
     Reflects(Reflection),
     /// Its journal is to be opened.
     Keeps(Keeping),
+    /// It goes on as a host's run.
+    Hosts(Hosting),
     /// It goes on as a drill.
     Drills(DrillRequest),
     WantOfMemory,
@@ -74,6 +79,9 @@ const MOST_LOG: u64 = 268_435_456;
 
 /// The most bytes of queries.
 const MOST_QUERIES: u64 = 65_536;
+
+/// The most bytes of a configuration.
+const MOST_CONFIG: u64 = 65_536;
 
 impl Next {
     /// What a command does first, or the refusal of words that ask for none.
@@ -103,6 +111,7 @@ impl Next {
             Some(Command::Reflect(request)) => {
                 Next::Reads(Waiting::Reflect(ReflectWait::Program(request)))
             }
+            Some(Command::Host(request)) => Next::Reads(Waiting::Host(HostWait::Config(request))),
             Some(Command::Drill(request)) => Next::Drills(request),
             None => Next::Refuses(CommandRefusal::Usage),
         }
@@ -125,6 +134,7 @@ impl Waiting {
             Waiting::Join(wait) => wait.name(),
             Waiting::Live(wait) => wait.name(),
             Waiting::Reflect(wait) => wait.name(),
+            Waiting::Host(wait) => wait.name(),
         }
     }
 
@@ -143,6 +153,7 @@ impl Waiting {
             Waiting::Join(wait) => wait.input(),
             Waiting::Live(wait) => wait.input(),
             Waiting::Reflect(wait) => wait.input(),
+            Waiting::Host(wait) => wait.input(),
         }
     }
 
@@ -157,6 +168,7 @@ impl Waiting {
             Input::Snapshot => MOST_SNAPSHOT as u64,
             Input::Persisted => MOST_JSON as u64,
             Input::Queries => MOST_QUERIES,
+            Input::Config => MOST_CONFIG,
             Input::Time => 0,
             Input::Address => 0,
             Input::Every => 0,
@@ -185,6 +197,7 @@ impl Waiting {
             Waiting::Join(wait) => wait.take(alloc, bytes),
             Waiting::Live(wait) => wait.take(alloc, bytes),
             Waiting::Reflect(wait) => wait.take(alloc, bytes),
+            Waiting::Host(wait) => wait.take(alloc, bytes),
         }
     }
 
@@ -193,7 +206,7 @@ impl Waiting {
         ensures { result ≡ next.Refuses (refusal.Input (input_of self)) }
     {
         let input = self.input();
-        drop(self);
+        drop(self); // for the prover
         Next::Refuses(CommandRefusal::Input(input))
     }
 

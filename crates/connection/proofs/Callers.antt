@@ -29,7 +29,7 @@ use Rattle.join_sync.specs.declared.early.Early.TheVariants.{OtherSession}
 use Rattle.join_sync.proofs.Openings.{joined_stands, stands_on}
 use Rattle.join_sync.proofs.Pulls.{batch_comes_after, batch_stands}
 use Rattle.join_sync.proofs.Replies.{reply_fits}
-use Rattle.system_plain.specs.Steps.{joined_view}
+use Rattle.system_plain.specs.Turn.{joined_view}
 use Rattle.std.specs.Str.{bytes_eq}
 use Rattle.connection.proofs.Lines.{pull_nothing}
 use Rattle.connection.specs.declared.ending.Halt.{Halt}
@@ -258,6 +258,14 @@ pub joined_so : (r : Result Cursor Halt) (made : Option Cursor) (before at now :
     → made ≡ first_cursor (joined_view request) given → IfOk r (λ cursor. made ≡ Some cursor) → IfOk r (λ cursor. IsStanding now cursor)
 joined_so (Ok cursor) made before at now request given is told made_is ok = joined_standing before at now request given cursor is told (sym made_is ∙ ok)
 joined_so (Err halt) made before at now request given is told made_is ok = tt
+
+-- a cursor stands there still once more has come
+pub stands_still : (before now : PlainSession) (cursor : Cursor) → GrowsTo before now → IsStanding before cursor → IsStanding now cursor
+stands_still before now cursor grows standing = (standing.0, stands_on before now standing.0 cursor grows standing.1)
+
+pub still_so : {T : Type 0} (r : Result T Halt) (before now : PlainSession) (cursor : Cursor) → GrowsTo before now → IsStanding before cursor → IfOk r (λ _. IsStanding now cursor)
+still_so (Ok x) before now cursor grows standing = stands_still before now cursor grows standing
+still_so (Err halt) before now cursor grows standing = tt
 
 -- a Pull behind a cursor is answered by a batch of what comes there
 pub batch_at : (before at now : PlainSession) (cursor : Cursor) (limit : ℕ) (given : Reply) → IsStanding before cursor → IsAnsweredAt before at now (Pull cursor.after limit) given → IsBatchAfter cursor.after given

@@ -1,5 +1,5 @@
 -- The counts of a link along events, and what they tell of an end.
-use Rattle.std.proofs.Common.{◌≡◌, ℕ, ◌+◌, ◌==◌, Bool, true, false, if◌then◌else◌, List, [], ◌∷◌, ◌++◌, Option, Some, None, Result, Ok, Err, refl, sym, subst, arith}
+use Rattle.std.proofs.Common.{◌≡◌, ℕ, ◌+◌, ◌==◌, Bool, true, false, if◌then◌else◌, List, [], ◌∷◌, ◌++◌, Option, Some, None, refl, sym, subst, arith}
 use Rattle.std.proofs.lemmas.Bool.Decides.{nat_tests}
 use Rattle.byte_fields.specs.Fields.{whole}
 use Rattle.tea_base.specs.declared.entry.SessionId.{SessionId}
@@ -18,13 +18,9 @@ use Rattle.reflector_core.specs.declared.request.Request.{Request}
 use Rattle.join_sync.specs.declared.act.Act.{Act}
 use Rattle.join_sync.specs.declared.act.Act.TheVariants.{Call, Answer}
 use Rattle.join_sync.specs.declared.cursor.Cursor.{Cursor}
-use Rattle.join_sync.specs.declared.early.Early.{Early}
 use Rattle.join_sync.specs.Answers.{answer_frame, first_cursor, join_answer}
 use Rattle.join_sync.specs.Batches.{next_cursor, next_frames}
-use Rattle.join_sync.specs.Refusals.{early_frame}
-use Rattle.join_sync.specs.Requests.{act_on, first_request}
-use Rattle.system_plain.specs.ConnectionLine.{unread_frame}
-use Rattle.system_plain.specs.Steps.{answer_frames, joined_view}
+use Rattle.system_plain.specs.Turn.{answer_frames, first_act, joined_view, later_act}
 use Rattle.connection.specs.declared.ending.Ended.{Ended}
 use Rattle.connection.specs.declared.ending.Ended.TheVariants as ended
 use Rattle.connection.specs.Causes.{IsCauseCounted, RoseBy}
@@ -106,13 +102,12 @@ refused_counts start now frame = (tt, (λ later rose. tt), tt)
 none_yet : (start now : Counts) → NoneFalls start now → RoseBy 0 start.quiets now.quiets
 none_yet start now f = let le = f.quiets in omega (arith, le)
 
-entered_counts : (start now : Counts) (frame : ClientFrame) (r : Result Request Early) → CountsTo start now (entered_phase frame r)
-entered_counts start now frame (Ok asked) = tt
-entered_counts start now frame (Err early) = refused_counts start now (early_frame early frame)
+entered_counts : (start now : Counts) (a : Act) → CountsTo start now (entered_phase a)
+entered_counts start now (Call asked) = tt
+entered_counts start now (Answer frame) = refused_counts start now frame
 
 opened_counts : (start now : Counts) (id : SessionId) (frame : Option ClientFrame) (at : ℕ) → CountsTo start now (opened_phase id frame at)
-opened_counts start now id None at = refused_counts start now unread_frame
-opened_counts start now id (Some frame) at = entered_counts start now frame (first_request frame id at)
+opened_counts start now id frame at = entered_counts start now (first_act id frame at)
 
 greeted_counts : (start now : Counts) (cursor : Option Cursor) (frame : Option ServerFrame) → NoneFalls start now → CountsTo start now (greeted_phase cursor frame)
 greeted_counts start now (Some cursor) (Some frame) f = telling_counts start now cursor (frame ∷ []) (Ticking cursor 0) (none_yet start now f)
@@ -125,8 +120,7 @@ acted_counts start now cursor (Call asked) f = tt
 acted_counts start now cursor (Answer frame) f = telling_counts start now cursor (frame ∷ []) (Ticking cursor 0) (none_yet start now f)
 
 read_counts : (start now : Counts) (cursor : Cursor) (frame : Option ClientFrame) (at : ℕ) → NoneFalls start now → CountsTo start now (read_phase cursor frame at)
-read_counts start now cursor None at f = telling_counts start now cursor (unread_frame ∷ []) (Ticking cursor 0) (none_yet start now f)
-read_counts start now cursor (Some frame) at f = acted_counts start now cursor (act_on cursor frame at) f
+read_counts start now cursor frame at f = acted_counts start now cursor (later_act cursor frame at) f
 
 -- a reply ends a connection only as Left or Stale
 ending_counts : (start now : Counts) (cursor : Cursor) (frames : List ServerFrame) (how : Ended) → ((later : Counts) → IsCauseCounted start later how) → CountsTo start now (ending_phase frames how (Leaving cursor ended.WantOfMemory))

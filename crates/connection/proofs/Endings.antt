@@ -1,5 +1,5 @@
 -- What was asked tells how a connection ends.
-use Rattle.std.proofs.Common.{◌≡◌, inl, inr, ℕ, ◌+◌, ◌≤◌, ◌==◌, Bool, true, false, if◌then◌else◌, List, [], ◌∷◌, ◌++◌, Option, Some, None, Result, Ok, Err, refl, sym, ◌∙◌, subst, append_assoc, arith}
+use Rattle.std.proofs.Common.{◌≡◌, inl, inr, ℕ, ◌+◌, ◌==◌, Bool, true, false, if◌then◌else◌, List, [], ◌∷◌, ◌++◌, Option, Some, None, Result, Ok, Err, refl, sym, ◌∙◌, subst, append_assoc}
 use Rattle.std.specs.List.{AllByRecursion}
 use Rattle.std.proofs.lemmas.List.{append-nil}
 use Rattle.byte_fields.specs.Fields.{whole}
@@ -28,8 +28,7 @@ use Rattle.join_sync.specs.Batches.{most_pulled, next_cursor, next_frames}
 use Rattle.join_sync.specs.Refusals.{early_frame, refused_frame}
 use Rattle.join_sync.specs.Requests.{IsJoin, IsOfFrame, act_on, first_request}
 use Rattle.join_sync.proofs.Replies.{request_fits}
-use Rattle.system_plain.specs.ConnectionLine.{unread_frame}
-use Rattle.system_plain.specs.Steps.{answer_frames}
+use Rattle.system_plain.specs.Turn.{answer_frames, open_act, unread_frame}
 use Rattle.reflector_core.specs.PlainSession.{PlainSession}
 use Rattle.session_lock.specs.declared.knowledge.Item.{Item}
 use Rattle.tea_io.specs.declared.link.Heard.{Heard}
@@ -101,7 +100,7 @@ early_asked : (early : Early) (frame : ClientFrame) → IsTurnedDown (code_in (e
 early_asked OtherSession frame = inr (inr refl)
 early_asked NotJoined frame = inr (inl refl)
 
-opened_asked : (id : SessionId) (frame : ClientFrame) (now : ℕ) (r : Result Request Early) → first_request frame id now ≡ r → AskedTo [] (entered_phase frame r)
+opened_asked : (id : SessionId) (frame : ClientFrame) (now : ℕ) (r : Result Request Early) → first_request frame id now ≡ r → AskedTo [] (entered_phase (open_act frame r))
 opened_asked id frame now (Ok request) is = (refl, first_is_join frame id now request is)
 opened_asked id frame now (Err early) is = refused_asked [] (early_frame early frame) tt (early_asked early frame)
 

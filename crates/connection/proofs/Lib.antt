@@ -1,5 +1,6 @@
 pub mod Callers
 pub mod Counting
+pub mod Fitting
 pub mod Endings
 pub mod Talking
 pub mod Lines

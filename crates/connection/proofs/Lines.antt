@@ -1,6 +1,5 @@
 -- A caller's talk as the work of a line, between the requests of others.
-use Rattle.std.proofs.Common.{◌≡◌, ℕ, max, nat_lt, Bool, true, false, eqb, if◌then◌else◌, List, [], ◌∷◌, ◌++◌, Option, Some, refl, sym, ap, ◌∙◌, subst, arith, length}
-use Rattle.std.proofs.lemmas.List.{append-nil}
+use Rattle.std.proofs.Common.{◌≡◌, ℕ, nat_lt, Bool, true, false, eqb, if◌then◌else◌, List, [], ◌∷◌, ◌++◌, Option, Some, refl, sym, ap, ◌∙◌, subst, length}
 use Rattle.tea_base.specs.declared.entry.SessionId.{SessionId}
 use Rattle.wire_frames.specs.declared.frame.ClientFrame.{ClientFrame}
 use Rattle.wire_frames.specs.declared.frame.ServerFrame.{ServerFrame}
@@ -11,13 +10,13 @@ use Rattle.reflector_core.specs.declared.keeper.CallFault.TheVariants as fault
 use Rattle.reflector_core.specs.declared.request.Reply.{Reply}
 use Rattle.reflector_core.specs.declared.request.Reply.TheVariants as reply
 use Rattle.reflector_core.specs.declared.request.Request.{Request}
-use Rattle.reflector_core.specs.declared.request.Request.TheVariants.{Pull, Tick}
+use Rattle.reflector_core.specs.declared.request.Request.TheVariants.{Pull}
 use Rattle.session_lock.specs.declared.knowledge.Item.{Item}
 use Rattle.session_lock.specs.declared.knowledge.Item.TheVariants.{Did, Void, Unkept}
 use Rattle.session_lock.specs.History.{play_from, IsSoundThrough}
 use Rattle.join_sync.specs.declared.cursor.Cursor.{Cursor}
 use Rattle.join_sync.specs.Batches.{most_pulled, next_cursor, next_frames}
-use Rattle.system_plain.specs.ConnectionLine.{AreSoundTurns, ConnectionLine, Hears, LineTurn, Others, Pumps, after_turn, after_turns, hears, pumps, pumps_batch}
+use Rattle.system_plain.specs.ConnectionLine.{AreSoundTurns, ConnectionLine, Hears, LineTurn, Others, Pulls, after_turn, after_turns, hears, pulls}
 use Rattle.connection.specs.Exchanges.{Exchange, Answered, Unanswered, exchanges_from}
 
 -- From the line some turns lead to a session. It hears the first of the frames that were given, and sends those that were sent and perhaps more.
@@ -137,9 +136,6 @@ pub hears_is : (id : SessionId) (line : ConnectionLine) (cursor : Option Cursor)
 hears_is id line cursor frame now clear is =
     ap (λ (b : Bool). if b then line else hears id line line.cursor frame now) clear ∙ ap (λ (c : Option Cursor). hears id line c frame now) is
 
-tick_nothing : (s : PlainSession) → (answer s (Tick 0)).session ≡ s
-tick_nothing s = let same : max s.horizon 0 ≡ s.horizon = omega arith in ap (λ (h : ℕ). record { log = s.log; horizon = h; kept = s.kept }) same
-
 abbrev session_in : SessionOutcome → PlainSession
 session_in outcome = outcome.session
 
@@ -150,23 +146,8 @@ pull_either false s x y one other = other
 pub pull_nothing : (s : PlainSession) (after limit : ℕ) → (answer s (Pull after limit)).session ≡ s
 pull_nothing s after limit = pull_either (nat_lt (length s.log) after) s _ _ refl refl
 
-batch_is : (line : ConnectionLine) (cursor : Cursor) (s : PlainSession) (given : Reply)
-    → pumps_batch line cursor s given ≡ record { session = s; cursor = Some (next_cursor cursor given); over = false; given = line.given; sent = line.sent ++ next_frames cursor given }
-batch_is line cursor s (reply.Batch entries tick) = refl
-batch_is line cursor s (reply.Joined seq time last from base) = ap (λ (l : List ServerFrame). record { session = s; cursor = Some cursor; over = false; given = line.given; sent = l }) (sym (append-nil line.sent))
-batch_is line cursor s (reply.Stamped seq time) = ap (λ (l : List ServerFrame). record { session = s; cursor = Some cursor; over = false; given = line.given; sent = l }) (sym (append-nil line.sent))
-batch_is line cursor s (reply.Again seq time) = ap (λ (l : List ServerFrame). record { session = s; cursor = Some cursor; over = false; given = line.given; sent = l }) (sym (append-nil line.sent))
-batch_is line cursor s (reply.Ticked time) = ap (λ (l : List ServerFrame). record { session = s; cursor = Some cursor; over = false; given = line.given; sent = l }) (sym (append-nil line.sent))
-batch_is line cursor s (reply.Left seq time) = ap (λ (l : List ServerFrame). record { session = s; cursor = Some cursor; over = false; given = line.given; sent = l }) (sym (append-nil line.sent))
-batch_is line cursor s reply.Kept = ap (λ (l : List ServerFrame). record { session = s; cursor = Some cursor; over = false; given = line.given; sent = l }) (sym (append-nil line.sent))
-batch_is line cursor s (reply.Refused refusal) = ap (λ (l : List ServerFrame). record { session = s; cursor = Some cursor; over = false; given = line.given; sent = l }) (sym (append-nil line.sent))
-
--- a line that pumps at time 0 pulls, and no more
-pub pumps_is : (id : SessionId) (line : ConnectionLine) (cursor : Cursor) → line.over ≡ false → line.cursor ≡ Some cursor
+-- a line that pulls
+pub pulls_is : (id : SessionId) (line : ConnectionLine) (cursor : Cursor) → line.over ≡ false → line.cursor ≡ Some cursor
     → let given = (answer line.session (Pull cursor.after most_pulled)).reply in
-    after_turn id line (Pumps 0) ≡ record { session = line.session; cursor = Some (next_cursor cursor given); over = false; given = line.given; sent = line.sent ++ next_frames cursor given }
-pumps_is id line cursor clear is =
-    ap (λ (b : Bool). if b then line else pumps line line.cursor 0) clear
-    ∙ (ap (λ (c : Option Cursor). pumps line c 0) is
-    ∙ (ap (λ (s : PlainSession). pumps_batch line cursor s (answer s (Pull cursor.after most_pulled)).reply) (tick_nothing line.session)
-    ∙ batch_is line cursor line.session (answer line.session (Pull cursor.after most_pulled)).reply))
+    after_turn id line Pulls ≡ record { session = line.session; cursor = Some (next_cursor cursor given); over = false; given = line.given; sent = line.sent ++ next_frames cursor given }
+pulls_is id line cursor clear is = ap (λ (b : Bool). if b then line else pulls line line.cursor) clear ∙ ap (pulls line) is

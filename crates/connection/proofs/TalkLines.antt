@@ -31,17 +31,18 @@ use Rattle.join_sync.specs.Answers.{answer_frame, first_cursor, join_answer}
 use Rattle.join_sync.specs.Batches.{most_pulled, next_cursor, next_frames}
 use Rattle.join_sync.specs.Refusals.{early_frame}
 use Rattle.join_sync.specs.Requests.{act_on, first_request}
-use Rattle.system_plain.specs.ConnectionLine.{ConnectionLine, after_turn, after_turns, first_line, hears, hears_act, hears_first, unread_frame}
+use Rattle.system_plain.specs.ConnectionLine.{ConnectionLine, after_turn, after_turns, first_line, hears}
 use Rattle.system_plain.specs.ConnectionLine as line
-use Rattle.system_plain.specs.Steps.{answer_frames, ends_connection, joined_view}
+use Rattle.system_plain.specs.Turn.{answer_frames, ends_connection, joined_view, open_act, unread_frame}
 use Rattle.system_plain.proofs.Lines.{served_by}
+use Rattle.system_plain.proofs.Turns.{hears_act, hears_first}
 use Rattle.connection.specs.declared.ending.Ended.{Ended}
 use Rattle.connection.specs.declared.ending.Ended.TheVariants as ended
 use Rattle.connection.specs.Exchanges.{Answered, Unanswered, exchanges_from}
 use Rattle.connection.specs.Phases.{TalkPhase, Opening, Beginning, Joining, Ticking, Pulling, Hearing, Taking, Asking, Sending, Leaving, Over, Wrong, TalkEvent, Hears, Reads, MakesRequest, MakesAt, Misses, Sends, Loses, FailsToSend, Wants, answered_by, acted_phase, code_in, end_in, ended_by, ending_phase, entered_phase, greeted_phase, heard_in, hearing_row, join_phase, opened_phase, opening_row, pulled_phase, read_phase, reply_phase, sending_phase, talk_walk}
 use Rattle.connection.specs.Talk.{Talk}
 use Rattle.connection.specs.TalkServed.{IsTalkServed, IsToldWithin, frames_of}
-use Rattle.connection.proofs.Lines.{IsLine, at_session, hears_is, misses, others_end, pull_nothing, pumps_is, reaches, turn_to}
+use Rattle.connection.proofs.Lines.{IsLine, at_session, hears_is, misses, others_end, pull_nothing, pulls_is, reaches, turn_to}
 use Rattle.connection.proofs.ServedFronts.{served_front}
 use Rattle.connection.proofs.Ticks.{line_ticks}
 
@@ -156,7 +157,7 @@ data ReadingGoes (id : SessionId) (l : ConnectionLine) (cursor : Option Cursor) 
   Turns : (next : ConnectionLine) → HeardBy id l next cursor frame now given sent p → ReadingGoes id l cursor frame now given sent p
 
 entered_goes : (id : SessionId) (l : ConnectionLine) (frame : ClientFrame) (now : ℕ) (given : List (Option ClientFrame)) (sent : List ServerFrame) (r : Result Request Early) → first_request frame id now ≡ r
-    → IsToHear l None (Some frame) given sent → ReadingGoes id l None (Some frame) now given sent (entered_phase frame r)
+    → IsToHear l None (Some frame) given sent → ReadingGoes id l None (Some frame) now given sent (entered_phase (open_act frame r))
 entered_goes id l frame now given sent (Ok asked) is h = Stays (frame, now, is, h)
 entered_goes id l frame now given sent (Err early) is h =
     let next : ConnectionLine = record { session = l.session; cursor = None; over = true; given = l.given ++ Some frame ∷ []; sent = l.sent ++ early_frame early frame ∷ [] } in
@@ -342,10 +343,10 @@ on id (Ticking cursor quiets) (MakesAt now replied) events caller final how l hi
 on id (Ticking cursor quiets) (Misses why) events caller final how l history given sent next r even =
     misses_on id why events caller final how (Leaving cursor (ended_by why)) l history given sent next r.sound r.ends r.asked r.over tt (even_part l (Some cursor) given sent even)
 on id (Pulling cursor quiets) (MakesRequest replied) events caller final how l history given sent next r even =
-    answers_on id events caller final how (pulled_phase cursor quiets replied) l history (request.Pull cursor.after most_pulled) replied (line.Pumps 0) given sent next r.sound r.ends r.asked r.over
-    (λ at replied_so. ap (λ (x : ConnectionLine). x.session) (pumps_is id (at_session l at) cursor even.clear even.at) ∙ sym (pull_nothing at cursor.after most_pulled))
+    answers_on id events caller final how (pulled_phase cursor quiets replied) l history (request.Pull cursor.after most_pulled) replied line.Pulls given sent next r.sound r.ends r.asked r.over
+    (λ at replied_so. ap (λ (x : ConnectionLine). x.session) (pulls_is id (at_session l at) cursor even.clear even.at) ∙ sym (pull_nothing at cursor.after most_pulled))
     (λ at replied_so.
-    subst (λ (x : ConnectionLine). Beside id x given sent (pulled_phase cursor quiets replied)) (sym (pumps_is id (at_session l at) cursor even.clear even.at))
+    subst (λ (x : ConnectionLine). Beside id x given sent (pulled_phase cursor quiets replied)) (sym (pulls_is id (at_session l at) cursor even.clear even.at))
     (subst (λ (q : Reply). Beside id (pulled_line at) given sent (pulled_phase cursor quiets q)) (sym replied_so) (beside_pulled at)))
   where
     pulled_line : PlainSession → ConnectionLine

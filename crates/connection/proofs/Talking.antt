@@ -1,7 +1,9 @@
 -- Talks go on.
 use Rattle.std.proofs.Common.{◌≡◌, ◌≢◌, ◌⊎◌, inl, inr, ℕ, ◌+◌, ◌<◌, ◌≤◌, ◌==◌, zero, suc, Bool, true, false, List, [], ◌∷◌, ◌++◌, if◌then◌else◌, map, length, drop, get_or, unwrap_or, Option, Some, None, Result, Ok, Err, refl, sym, ap, ◌∙◌, subst, append_assoc, ne_eqb, eq-eqb, arith}
 use Rattle.std.specs.List.{AllByRecursion}
+use Rattle.std.specs.Prelude.{IsErrAnd}
 use Rattle.std.proofs.lemmas.List.{append-nil, drop_more}
+use Rattle.std.proofs.lemmas.Result.{err_from_is_err_and}
 use Rattle.tea_base.specs.declared.entry.SessionId.{SessionId}
 use Rattle.tea_io.specs.Told.{with_more, Rose}
 use Rattle.tea_io.specs.Links.{CountRises, NoneFalls, SendCause, Sends as LinkSends, most_quiets, note_of}
@@ -29,7 +31,7 @@ use Rattle.join_sync.specs.declared.act.Act.TheVariants.{Call}
 use Rattle.join_sync.specs.declared.early.Early.TheVariants.{OtherSession}
 use Rattle.join_sync.specs.Answers.{answer_frame, first_cursor, join_answer}
 use Rattle.join_sync.specs.Requests.{act_on, first_request}
-use Rattle.system_plain.specs.Steps.{answer_frames, joined_view}
+use Rattle.system_plain.specs.Turn.{answer_frames, joined_view}
 use Rattle.reflector_core.specs.declared.request.Request.{Request}
 use Rattle.reflector_core.specs.PlainSession.{PlainSession}
 use Rattle.session_lock.specs.declared.knowledge.Item.{Item}
@@ -145,6 +147,10 @@ pub then_either : {T : Type 0} (made : Exchange → Type 0) (id : SessionId) (r 
     → TalksOrHalts made id q to r b c → TalksOrHalts made id p to r a c
 then_either made id (Ok x) to p q a b c f g = talks_then made id p q (to x) a b c f g
 then_either made id (Err halt) to p q a b c f g = talks_then made id p q (halt_phase halt) a b c f g
+
+-- what a `?` hands on
+pub handed_on : {A E : Type 0} (r : Result A E) (halt : E) → IsErrAnd r (λ e. e ≡ halt) → r ≡ Err halt
+handed_on {E = E} r halt handed = let given = err_from_is_err_and r handed in given.1 ∙ ap (λ (e : E). Err e) given.2
 
 -- ---- one event
 

@@ -7,9 +7,9 @@ use Rattle.wire_frames.specs.declared.frame.ServerFrame.TheVariants.{Sync, Recv,
 use Rattle.reflector_core.specs.PlainSession.{PlainSession, IsSoundSession}
 use Rattle.reflector_core.specs.Answer.{answer}
 use Rattle.join_sync.specs.declared.cursor.Cursor.{Cursor}
-use Rattle.system_plain.specs.ConnectionLine.{AreSoundTurns, ConnectionLine, Hears, LineTurn, Others, Pumps, after_turn, after_turns, first_line}
+use Rattle.system_plain.specs.ConnectionLine.{AreSoundTurns, ConnectionLine, Hears, LineTurn, Others, Pulls, after_turn, after_turns, first_line}
 use Rattle.system_plain.proofs.Facts.{TicksWithin as TicksUpTo}
-use Rattle.system_plain.proofs.Lines.{LineStands, Stands, hears_stands, line_stands_grow, pumps_stands}
+use Rattle.system_plain.proofs.Lines.{LineStands, Stands, hears_stands, line_stands_grow, pulls_stands}
 use Rattle.system_plain.proofs.Sessions.{Grows-answer}
 use Rattle.connection.specs.TalkServed.{TicksWithin}
 use Rattle.connection.proofs.Lines.{IsLine}
@@ -23,8 +23,8 @@ stands_if false a b sound held fell = fell refl sound
 stands_on : (id : SessionId) (line : ConnectionLine) (next : LineTurn) → IsSoundSession (after_turn id line next).session → LineStands line → LineStands (after_turn id line next)
 stands_on id line (Hears frame now) sound is =
     stands_if line.over _ _ sound is (λ going new. hears_stands id line line.cursor frame now is.sound new (subst (λ (o : Bool). Stands line.session line.cursor o line.given line.sent) going is.stands))
-stands_on id line (Pumps now) sound is =
-    stands_if line.over _ _ sound is (λ going new. pumps_stands line line.cursor now refl going is.sound (subst (λ (o : Bool). Stands line.session line.cursor o line.given line.sent) going is.stands))
+stands_on id line Pulls sound is =
+    stands_if line.over _ _ sound is (λ going new. pulls_stands line line.cursor refl going is.sound (subst (λ (o : Bool). Stands line.session line.cursor o line.given line.sent) going is.stands))
 stands_on id line (Others asked) sound is =
     record { sound = sound; stands = line_stands_grow line.session (answer line.session asked).session line.cursor line.over line.given line.sent (Grows-answer line.session asked sound) is.stands }
 

@@ -82,8 +82,10 @@ pub record LeavesStale (asked : List Exchange) : Type 0 where
 
 -- nothing was asked, since the first frame is not read or no JOIN of this session; or a Join, which was refused
 abbrev pub IsTurnedDown : ℕ → List Exchange → Type 0
-IsTurnedDown code [] = (code ≡ code_number codes.BadFrame) ⊎ ((code ≡ code_number codes.NotJoined) ⊎ (code ≡ code_number codes.OtherSession))
-IsTurnedDown code (Answered (Join view now want) (Refused refusal) ∷ []) = code ≡ code_in (refused_frame JOIN_TAG refusal)
+IsTurnedDown code [] = (code ≡ code_number codes.BadFrame)
+    ⊎ ((code ≡ code_number codes.NotJoined) ⊎ (code ≡ code_number codes.OtherSession))
+IsTurnedDown code (Answered (Join view now want) (Refused refusal) ∷ []) =
+    code ≡ code_in (refused_frame JOIN_TAG refusal)
 IsTurnedDown code other = ⊥
 
 -- It ends as Left or Stale where a frame's request was answered so, as Refused where its first frame was, as Unkept where a call was not kept,

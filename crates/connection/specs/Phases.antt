@@ -1,5 +1,5 @@
 -- The talk of a connection, phase by phase: where it stands, and what each event makes of it.
-use Rattle.std.specs.Prelude.{ℕ, ◌+◌, ◌==◌, List, [], ◌∷◌, ◌++◌, if◌then◌else◌, Option, Some, None, Result, Ok, Err}
+use Rattle.std.specs.Prelude.{ℕ, ◌+◌, ◌==◌, List, [], ◌∷◌, ◌++◌, if◌then◌else◌, Option, Some, None}
 use Rattle.byte_fields.specs.Fields.{whole}
 use Rattle.tea_base.specs.declared.entry.SessionId.{SessionId}
 use Rattle.tea_io.specs.declared.link.Heard.{Heard}
@@ -12,20 +12,16 @@ use Rattle.wire_frames.specs.declared.frame.ServerFrame.TheVariants as server
 use Rattle.reflector_core.specs.declared.keeper.CallFault.{CallFault}
 use Rattle.reflector_core.specs.declared.keeper.CallFault.TheVariants as fault
 use Rattle.reflector_core.specs.declared.request.Request.{Request}
-use Rattle.reflector_core.specs.declared.request.Request.TheVariants.{Tick, Leave, Pull}
+use Rattle.reflector_core.specs.declared.request.Request.TheVariants.{Tick}
 use Rattle.reflector_core.specs.declared.request.Reply.{Reply}
 use Rattle.reflector_core.specs.declared.request.Reply.TheVariants as reply
 use Rattle.reflector_core.specs.declared.request.Refusal.TheVariants as refusal
 use Rattle.join_sync.specs.declared.act.Act.{Act}
 use Rattle.join_sync.specs.declared.act.Act.TheVariants.{Call, Answer}
 use Rattle.join_sync.specs.declared.cursor.Cursor.{Cursor}
-use Rattle.join_sync.specs.declared.early.Early.{Early}
-use Rattle.join_sync.specs.Answers.{answer_frame, first_cursor, join_answer}
-use Rattle.join_sync.specs.Batches.{most_pulled, next_cursor, next_frames}
-use Rattle.join_sync.specs.Refusals.{early_frame}
-use Rattle.join_sync.specs.Requests.{act_on, first_request}
-use Rattle.system_plain.specs.ConnectionLine.{unread_frame}
-use Rattle.system_plain.specs.Steps.{answer_frames, joined_view}
+use Rattle.join_sync.specs.Answers.{join_answer}
+use Rattle.join_sync.specs.Batches.{next_cursor}
+use Rattle.system_plain.specs.Turn.{ask_told, batch_told, first_act, joined_cursor, later_act, leave_request, pull_request}
 use Rattle.connection.specs.declared.ending.Ended.{Ended}
 use Rattle.connection.specs.declared.ending.Ended.TheVariants as ended
 use Rattle.connection.specs.declared.ending.Halt.{Halt}
@@ -111,7 +107,8 @@ ending_phase frames how wants = sending_phase frames (Over how) (Over how) wants
 
 -- frames are sent to a view that has joined; where this fails, it leaves
 abbrev pub telling_phase : Cursor → List ServerFrame → TalkPhase → TalkPhase
-telling_phase cursor frames next = sending_phase frames next (Leaving cursor ended.LinkFault) (Leaving cursor ended.WantOfMemory)
+telling_phase cursor frames next =
+    sending_phase frames next (Leaving cursor ended.LinkFault) (Leaving cursor ended.WantOfMemory)
 
 -- the code of a refusal
 abbrev pub code_in : ServerFrame → ℕ
@@ -122,14 +119,13 @@ code_in other = 0
 abbrev pub refused_phase : ServerFrame → TalkPhase
 refused_phase frame = ending_phase (frame ∷ []) (ended.Refused (code_in frame)) (Over ended.WantOfMemory)
 
-abbrev pub entered_phase : ClientFrame → Result Request Early → TalkPhase
-entered_phase frame (Ok request) = Joining request
-entered_phase frame (Err early) = refused_phase (early_frame early frame)
+abbrev pub entered_phase : Act → TalkPhase
+entered_phase (Call request) = Joining request
+entered_phase (Answer frame) = refused_phase frame
 
 -- the first frame was read, or it has no reading
 abbrev pub opened_phase : SessionId → Option ClientFrame → ℕ → TalkPhase
-opened_phase id None now = refused_phase unread_frame
-opened_phase id (Some frame) now = entered_phase frame (first_request frame id now)
+opened_phase id frame now = entered_phase (first_act id frame now)
 
 abbrev pub greeted_phase : Option Cursor → Option ServerFrame → TalkPhase
 greeted_phase (Some cursor) (Some frame) = telling_phase cursor (frame ∷ []) (Ticking cursor 0)
@@ -138,7 +134,7 @@ greeted_phase cursor None = Wrong
 
 -- the Join was answered
 abbrev pub join_phase : Request → Reply → TalkPhase
-join_phase request given = greeted_phase (first_cursor (joined_view request) given) (join_answer given)
+join_phase request given = greeted_phase (joined_cursor request given) (join_answer given)
 
 abbrev pub acted_phase : Cursor → Act → TalkPhase
 acted_phase cursor (Call request) = Asking cursor request
@@ -146,8 +142,7 @@ acted_phase cursor (Answer frame) = telling_phase cursor (frame ∷ []) (Ticking
 
 -- a later frame was read, or it has no reading
 abbrev pub read_phase : Cursor → Option ClientFrame → ℕ → TalkPhase
-read_phase cursor None now = telling_phase cursor (unread_frame ∷ []) (Ticking cursor 0)
-read_phase cursor (Some frame) now = acted_phase cursor (act_on cursor frame now)
+read_phase cursor frame now = acted_phase cursor (later_act cursor frame now)
 
 -- how the reply to a frame's request ends the connection, if it does
 abbrev pub end_in : Reply → Option Ended
@@ -161,18 +156,20 @@ answered_by cursor None frames = telling_phase cursor frames (Ticking cursor 0)
 
 -- the request of a frame was answered
 abbrev pub reply_phase : Cursor → Request → Reply → TalkPhase
-reply_phase cursor request given = answered_by cursor (end_in given) (answer_frames (answer_frame request given))
+reply_phase cursor request given = answered_by cursor (end_in given) (ask_told cursor request given).sent
 
 -- the Pull was answered
 abbrev pub pulled_phase : Cursor → ℕ → Reply → TalkPhase
-pulled_phase cursor quiets given = telling_phase cursor (next_frames cursor given) (Hearing (next_cursor cursor given) quiets)
+pulled_phase cursor quiets given =
+    telling_phase cursor (batch_told cursor given).sent (Hearing (next_cursor cursor given) quiets)
 
 -- so many Quiets came in a row
 abbrev pub opening_row : ℕ → TalkPhase
 opening_row quiets = if quiets == most_quiets then Over (ended.Idle most_quiets) else Opening quiets
 
 abbrev pub hearing_row : Cursor → ℕ → TalkPhase
-hearing_row cursor quiets = if quiets == most_quiets then Leaving cursor (ended.Idle most_quiets) else Ticking cursor quiets
+hearing_row cursor quiets = if quiets == most_quiets then Leaving cursor (ended.Idle most_quiets)
+    else Ticking cursor quiets
 
 -- the link was heard before the first frame
 abbrev pub opening : ℕ → Heard → TalkPhase
@@ -200,18 +197,20 @@ talk_step id (Joining request) (MakesRequest given) = asks (join_phase request g
 talk_step id (Joining request) (Misses why) = asks (Over (ended_by why)) (Unanswered why)
 talk_step id (Ticking cursor quiets) (MakesAt now given) = asks (Pulling cursor quiets) (Answered (Tick now) given)
 talk_step id (Ticking cursor quiets) (Misses why) = asks (Leaving cursor (ended_by why)) (Unanswered why)
-talk_step id (Pulling cursor quiets) (MakesRequest given) = asks (pulled_phase cursor quiets given) (Answered (Pull cursor.after most_pulled) given)
+talk_step id (Pulling cursor quiets) (MakesRequest given) =
+    asks (pulled_phase cursor quiets given) (Answered (pull_request cursor) given)
 talk_step id (Pulling cursor quiets) (Misses why) = asks (Leaving cursor (ended_by why)) (Unanswered why)
 talk_step id (Hearing cursor quiets) (Hears what) = goes (hearing cursor quiets what)
 talk_step id (Taking cursor bytes) (Reads now) = goes (read_phase cursor (whole client_at bytes) now)
 talk_step id (Taking cursor bytes) Wants = goes (Leaving cursor ended.WantOfMemory)
-talk_step id (Asking cursor request) (MakesRequest given) = asks (reply_phase cursor request given) (Answered request given)
+talk_step id (Asking cursor request) (MakesRequest given) =
+    asks (reply_phase cursor request given) (Answered request given)
 talk_step id (Asking cursor request) (Misses why) = asks (Leaving cursor (ended_by why)) (Unanswered why)
 talk_step id (Sending frame frames next fails wants) Sends = sends (sending_phase frames next fails wants) frame
 talk_step id (Sending frame frames next fails wants) Loses = sends fails frame
 talk_step id (Sending frame frames next fails wants) FailsToSend = goes fails
 talk_step id (Sending frame frames next fails wants) Wants = goes wants
-talk_step id (Leaving cursor how) (MakesAt now given) = asks (Over how) (Answered (Leave cursor.view cursor.joined now) given)
+talk_step id (Leaving cursor how) (MakesAt now given) = asks (Over how) (Answered (leave_request cursor now) given)
 talk_step id (Leaving cursor how) (Misses why) = asks (Over how) (Unanswered why)
 talk_step id phase event = goes Wrong
 

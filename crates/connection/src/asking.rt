@@ -59,11 +59,14 @@ pub fn ask<C: Clock, R: Wait, K: Keeper>(
 ) -> Result<Reply, CallFault>
     requires session { pass.old.session ≡ service.now.shared.now.session }
     ensures kept { pass.new ≡ record pass.old { seen = pass.new.seen } }
-    ensures asked { exchanges_in pass.new.opening pass.new.seen (caller pass.new) ≡ exchanges_in pass.old.opening pass.old.seen (caller pass.old) ++ exchange_of request.now result ∷ [] }
+    ensures asked { exchanges_in pass.new.opening pass.new.seen (caller pass.new)
+        ≡ exchanges_in pass.old.opening pass.old.seen (caller pass.old) ++ exchange_of request.now result ∷ [] }
     ensures sees { SeesOn pass.old pass.new }
     ensures grows { GrowsTo (play_from pass.old.opening pass.old.seen) (play_from pass.new.opening pass.new.seen) }
     ensures unkept { IsUnkeptBy (SomeShut K.shut) (exchange_of request.now result) }
-    ensures reply { IfOk result (λ given. (at : PlainSession) × IsAnsweredAt (play_from pass.old.opening pass.old.seen) at (play_from pass.new.opening pass.new.seen) request.now given) }
+    ensures reply { IfOk result (λ given. (at : PlainSession)
+        × IsAnsweredAt (play_from pass.old.opening pass.old.seen) at
+        (play_from pass.new.opening pass.new.seen) request.now given) }
 {
     if is_offer(request) {
         service.shared.offer_kept(service.rt, pass, request)

@@ -14,10 +14,16 @@ use tea_io::Clock;
 /// A talk is served by the log of its history, which is sound at each place, and each TICK that was sent is at most the horizon there. It stays
 /// a talk while others go on.
 pub fn each_talk_is_served<C: Clock>(clock: &C)
-    ensures served { (id : SessionId) (opening : PlainSession) (history : List Item) (caller : ℕ) (heard : List Heard) (sent : List (List ℕ)) (how : Ended)
-        → IsSoundThrough opening history → Talk (C.gives clock.now) id opening history caller heard sent how → IsTalkServed (play_from opening history).log heard sent }
-    ensures ticks { (id : SessionId) (opening : PlainSession) (history : List Item) (caller : ℕ) (heard : List Heard) (sent : List (List ℕ)) (how : Ended)
-        → IsSoundThrough opening history → Talk (C.gives clock.now) id opening history caller heard sent how → IsToldWithin (play_from opening history).horizon sent }
-    ensures grows { (id : SessionId) (opening : PlainSession) (history more : List Item) (caller : ℕ) (heard : List Heard) (sent : List (List ℕ)) (how : Ended)
-        → calls_of (caller ∷ []) more ≡ [] → Talk (C.gives clock.now) id opening history caller heard sent how → Talk (C.gives clock.now) id opening (history ++ more) caller heard sent how }
+    ensures served { (id : SessionId) (opening : PlainSession) (history : List Item) (caller : ℕ) (heard : List Heard)
+        (sent : List (List ℕ)) (how : Ended)
+        → IsSoundThrough opening history → Talk (C.gives clock.now) id opening history caller heard sent how
+        → IsTalkServed (play_from opening history).log heard sent }
+    ensures ticks { (id : SessionId) (opening : PlainSession) (history : List Item) (caller : ℕ) (heard : List Heard)
+        (sent : List (List ℕ)) (how : Ended)
+        → IsSoundThrough opening history → Talk (C.gives clock.now) id opening history caller heard sent how
+        → IsToldWithin (play_from opening history).horizon sent }
+    ensures grows { (id : SessionId) (opening : PlainSession) (history more : List Item) (caller : ℕ)
+        (heard : List Heard) (sent : List (List ℕ)) (how : Ended)
+        → calls_of (caller ∷ []) more ≡ [] → Talk (C.gives clock.now) id opening history caller heard sent how
+        → Talk (C.gives clock.now) id opening (history ++ more) caller heard sent how }
 {}

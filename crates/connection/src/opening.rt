@@ -3,6 +3,7 @@ ghost use Rattle.std.specs.Prelude.{◌≡◌, ℕ, List, Option, Some, IfOk, Ma
 ghost use Rattle.session_lock.specs.History.{play_from};
 ghost use Rattle.session_lock.specs.Passes.{PassState};
 ghost use Rattle.byte_fields.specs.Fields.{whole};
+ghost use Rattle.wire_frames.specs.Frames.{FitsServer};
 ghost use Rattle.wire_frames.specs.Reading.{client_at};
 ghost use Rattle.system_plain.specs.Steps.{joined_view};
 ghost use Rattle.wire_frames.specs.declared.frame.ServerFrame.{ServerFrame};
@@ -31,10 +32,10 @@ pub fn first_frame<C: Clock, R: Wait, K: Keeper, L: Link>(
     link: &mut L,
 ) -> Result<Blob, Ended>
     ensures { (pass : PassState) → MatchResult result
-        (λ bytes. TalksOn (IsMadeSo (C.gives service.now.clock.now) (SomeShut K.shut)) service.now.id (Opening 0) (Beginning bytes)
-        (account pass (link_account L.heard L.sent L.counts link.old)) (account pass (link_account L.heard L.sent L.counts link.new)))
-        (λ ended. TalksOn (IsMadeSo (C.gives service.now.clock.now) (SomeShut K.shut)) service.now.id (Opening 0) (Over ended)
-        (account pass (link_account L.heard L.sent L.counts link.old)) (account pass (link_account L.heard L.sent L.counts link.new))) }
+        (λ bytes. TalksOn (IsMadeSo (C.gives service.now.clock.now) (SomeShut K.shut)) service.now.id (Opening 0)
+        (Beginning bytes) (account pass (link_account L.Link link.old)) (account pass (link_account L.Link link.new)))
+        (λ ended. TalksOn (IsMadeSo (C.gives service.now.clock.now) (SomeShut K.shut)) service.now.id (Opening 0)
+        (Over ended) (account pass (link_account L.Link link.old)) (account pass (link_account L.Link link.new))) }
 {
     for _quiets in 0..MOST_QUIETS {
         match link.recv() {
@@ -57,18 +58,18 @@ fn greet<C: Clock, R: Wait, K: Keeper, L: Link>(
     cursor: Option<Cursor>,
     frame: &ServerFrame,
 ) -> Result<Cursor, Halt>
+    requires { FitsServer frame.now }
     ensures cursor { IfOk result (λ joined. cursor ≡ Some joined) }
-    ensures talk { (pass : PassState) → TalksOrHalts (IsMadeSo (C.gives service.now.clock.now) (SomeShut K.shut)) service.now.id
+    ensures talk { (pass : PassState)
+        → TalksOrHalts (IsMadeSo (C.gives service.now.clock.now) (SomeShut K.shut)) service.now.id
         (greeted_phase cursor (Some frame.now)) (λ joined. Ticking joined 0) result
-        (account pass (link_account L.heard L.sent L.counts link.old)) (account pass (link_account L.heard L.sent L.counts link.new)) }
+        (account pass (link_account L.Link link.old)) (account pass (link_account L.Link link.new)) }
 {
     let Some(cursor) = cursor else {
         return Err(refuse(service, link, frame));
     };
-    match tell(service, link, &cursor, frame) {
-        Ok(()) => Ok(cursor),
-        Err(halt) => Err(halt),
-    }
+    tell(service, link, &cursor, frame)?;
+    Ok(cursor)
 }
 
 /// The view that a Join is of.
@@ -95,8 +96,8 @@ fn join<C: Clock, R: Wait, K: Keeper, L: Link>(
     ensures kept { pass.new ≡ record pass.old { seen = pass.new.seen } }
     ensures standing { IfOk result (λ cursor. IsStanding (play_from pass.new.opening pass.new.seen) cursor) }
     ensures talk { TalksOrHalts (IsMadeSo (C.gives service.now.clock.now) (SomeShut K.shut)) service.now.id
-        (Joining request.now) (λ cursor. Ticking cursor 0) result
-        (account pass.old (link_account L.heard L.sent L.counts link.old)) (account pass.new (link_account L.heard L.sent L.counts link.new)) }
+        (Joining request.now) (λ cursor. Ticking cursor 0) result (account pass.old (link_account L.Link link.old))
+        (account pass.new (link_account L.Link link.new)) }
 {
     let reply = match ask(service, pass, request) {
         Ok(reply) => reply,
@@ -116,9 +117,10 @@ fn enter<C: Clock, R: Wait, K: Keeper, L: Link>(
     requires session { pass.old.session ≡ service.now.shared.now.session }
     ensures kept { pass.new ≡ record pass.old { seen = pass.new.seen } }
     ensures standing { IfOk result (λ cursor. IsStanding (play_from pass.new.opening pass.new.seen) cursor) }
-    ensures talk { (bytes : List ℕ) → whole client_at bytes ≡ Some frame.now → TalksOrHalts (IsMadeSo (C.gives service.now.clock.now) (SomeShut K.shut)) service.now.id
-        (Beginning bytes) (λ cursor. Ticking cursor 0) result
-        (account pass.old (link_account L.heard L.sent L.counts link.old)) (account pass.new (link_account L.heard L.sent L.counts link.new)) }
+    ensures talk { (bytes : List ℕ) → whole client_at bytes ≡ Some frame.now
+        → TalksOrHalts (IsMadeSo (C.gives service.now.clock.now) (SomeShut K.shut)) service.now.id
+        (Beginning bytes) (λ cursor. Ticking cursor 0) result (account pass.old (link_account L.Link link.old))
+        (account pass.new (link_account L.Link link.new)) }
 {
     let now = service.clock.now();
     match open(frame, &service.id, now) {
@@ -138,8 +140,8 @@ pub fn begin<C: Clock, R: Wait, K: Keeper, L: Link>(
     ensures kept { pass.new ≡ record pass.old { seen = pass.new.seen } }
     ensures standing { IfOk result (λ cursor. IsStanding (play_from pass.new.opening pass.new.seen) cursor) }
     ensures talk { TalksOrHalts (IsMadeSo (C.gives service.now.clock.now) (SomeShut K.shut)) service.now.id
-        (Beginning bytes.now) (λ cursor. Ticking cursor 0) result
-        (account pass.old (link_account L.heard L.sent L.counts link.old)) (account pass.new (link_account L.heard L.sent L.counts link.new)) }
+        (Beginning bytes.now) (λ cursor. Ticking cursor 0) result (account pass.old (link_account L.Link link.old))
+        (account pass.new (link_account L.Link link.new)) }
 {
     match read_client(service.alloc, bytes.bytes()) {
         Ok(frame) => enter(service, pass, link, &frame),

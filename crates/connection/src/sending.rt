@@ -1,9 +1,8 @@
 //! Frames that go to a link.
-ghost use Rattle.std.specs.Prelude.{◌≡◌, ◌<◌, ◌^◌, length, List, Some, IfOk, IsTrue, [], ◌∷◌};
+ghost use Rattle.std.specs.Prelude.{◌≡◌, List, Some, [], ◌∷◌};
+ghost use Rattle.std.specs.List.{AllByRecursion};
 ghost use Rattle.tea_io.specs.Links.{NoneFalls, SendCause};
-ghost use Rattle.entry_fields.specs.Spelling.{FitsWhat};
-ghost use Rattle.wire_frames.specs.Frames.{FitsServer, IsServerFrame};
-ghost use Rattle.wire_frames.specs.Spelling.{server_spelling};
+ghost use Rattle.wire_frames.specs.Frames.{FitsServer};
 ghost use Rattle.wire_frames.specs.declared.frame.ServerFrame.{ServerFrame};
 ghost use Rattle.session_lock.specs.Keeping.{SomeShut};
 ghost use Rattle.session_lock.specs.Passes.{PassState};
@@ -18,63 +17,19 @@ use join_sync::Cursor;
 use reflector_core::Keeper;
 use std::alloc::Global;
 use std::sync::Wait;
-use tea_base::{Blob, TIME_LIMIT, WantOfMemory, What};
 use tea_io::{Clock, Link, LinkFault};
-use wire_frames::{Base, NO_TAG, RefusalCode, ServerFrame, typed_server, write_server};
+use wire_frames::{NO_TAG, RefusalCode, ServerFrame, typed_server, write_server};
 
-/// Whether bytes are no more than their field can count.
-fn is_short(bytes: &Blob) -> bool
-    ensures { IsTrue result → length bytes.now < 2 ^ 32 }
-{
-    bytes.len() < 4_294_967_296
-}
-
-/// Whether what an entry records fits its fields.
-fn fits_what(what: &What) -> bool
-    ensures { IsTrue result → FitsWhat what.now }
-{
-    match what {
-        What::Event { payload, .. } => is_short(payload),
-        What::Join | What::Exit => true,
-    }
-}
-
-/// Whether each number of a frame fits its field.
-fn fits(frame: &ServerFrame) -> bool
-    ensures { IsTrue result → FitsServer frame.now }
-{
-    match frame {
-        ServerFrame::Sync {
-            base: Some(Base { time, bytes }),
-            ..
-        } => *time < TIME_LIMIT && is_short(bytes),
-        ServerFrame::Recv(entry) => entry.time < TIME_LIMIT && fits_what(&entry.what),
-        ServerFrame::Tick(time) | ServerFrame::Snapped { time } => *time < TIME_LIMIT,
-        ServerFrame::Done { time, .. } => *time < TIME_LIMIT,
-        ServerFrame::Sync { base: None, .. } | ServerFrame::Refused { .. } | ServerFrame::Alive =>
-            true,
-    }
-}
-
-/// The spelling of a frame. A session makes no frame that does not fit; one that did would count as want of memory.
-fn spelling(alloc: Global, frame: &ServerFrame) -> Result<Blob, WantOfMemory>
-    ensures { IfOk result (λ bytes. (bytes ≡ server_spelling frame.now) × IsServerFrame frame.now) }
-{
-    if !fits(frame) {
-        return Err(WantOfMemory);
-    }
-    typed_server(frame);
-    write_server(alloc, frame)
-}
-
-/// Sends a frame.
+/// Sends a frame that fits its fields.
 fn send<L: Link>(alloc: Global, link: &mut L, frame: &ServerFrame) -> Result<(), LinkFault>
+    requires { FitsServer frame.now }
     ensures sent { SendsSpelled (L.sent link.old) (L.sent link.new) frame.now result }
     ensures heard { L.heard link.new ≡ L.heard link.old }
     ensures later { NoneFalls (L.counts link.old) (L.counts link.new) }
     ensures cause { SendCause (L.counts link.old) (L.counts link.new) result }
 {
-    let Ok(bytes) = spelling(alloc, frame) else {
+    typed_server(frame); // for the prover
+    let Ok(bytes) = write_server(alloc, frame) else {
         return Err(LinkFault::WantOfMemory);
     };
     link.send(bytes.bytes())
@@ -97,9 +52,11 @@ pub fn tell<C: Clock, R: Wait, K: Keeper, L: Link>(
     cursor: &Cursor,
     frame: &ServerFrame,
 ) -> Result<(), Halt>
-    ensures { (pass : PassState) (rest : List ServerFrame) (next : TalkPhase) → TalksOrHalts (IsMadeSo (C.gives service.now.clock.now) (SomeShut K.shut)) service.now.id
+    requires { FitsServer frame.now }
+    ensures { (pass : PassState) (rest : List ServerFrame) (next : TalkPhase)
+        → TalksOrHalts (IsMadeSo (C.gives service.now.clock.now) (SomeShut K.shut)) service.now.id
         (telling_phase cursor.now (frame.now ∷ rest) next) (λ _. telling_phase cursor.now rest next) result
-        (account pass (link_account L.heard L.sent L.counts link.old)) (account pass (link_account L.heard L.sent L.counts link.new)) }
+        (account pass (link_account L.Link link.old)) (account pass (link_account L.Link link.new)) }
 {
     match send(service.alloc, link, frame) {
         Ok(()) => Ok(()),
@@ -115,15 +72,14 @@ pub fn tell_all<C: Clock, R: Wait, K: Keeper, L: Link>(
     cursor: &Cursor,
     frames: &[ServerFrame],
 ) -> Result<(), Halt>
-    ensures { (pass : PassState) (next : TalkPhase) → TalksOrHalts (IsMadeSo (C.gives service.now.clock.now) (SomeShut K.shut)) service.now.id
-        (telling_phase cursor.now frames.now next) (λ _. next) result
-        (account pass (link_account L.heard L.sent L.counts link.old)) (account pass (link_account L.heard L.sent L.counts link.new)) }
+    requires { AllByRecursion FitsServer frames.now }
+    ensures { (pass : PassState) (next : TalkPhase)
+        → TalksOrHalts (IsMadeSo (C.gives service.now.clock.now) (SomeShut K.shut)) service.now.id
+        (telling_phase cursor.now frames.now next) (λ _. next) result (account pass (link_account L.Link link.old))
+        (account pass (link_account L.Link link.new)) }
 {
     for frame in frames {
-        match tell(service, link, cursor, frame) {
-            Ok(()) => {}
-            Err(halt) => return Err(halt),
-        }
+        tell(service, link, cursor, frame)?;
     }
     Ok(())
 }
@@ -136,9 +92,10 @@ pub fn tell_last<C: Clock, R: Wait, K: Keeper, L: Link>(
     ended: Ended,
     wants: Halt,
 ) -> Halt
+    requires { FitsServer frame.now }
     ensures { (pass : PassState) → TalksOn (IsMadeSo (C.gives service.now.clock.now) (SomeShut K.shut)) service.now.id
         (ending_phase (frame.now ∷ []) ended (halt_phase wants)) (halt_phase result)
-        (account pass (link_account L.heard L.sent L.counts link.old)) (account pass (link_account L.heard L.sent L.counts link.new)) }
+        (account pass (link_account L.Link link.old)) (account pass (link_account L.Link link.new)) }
 {
     match send(service.alloc, link, frame) {
         Ok(()) => Halt::Over(ended),
@@ -155,9 +112,10 @@ pub fn tell_end<C: Clock, R: Wait, K: Keeper, L: Link>(
     frame: &ServerFrame,
     ended: Ended,
 ) -> Halt
+    requires { FitsServer frame.now }
     ensures { (pass : PassState) → TalksOn (IsMadeSo (C.gives service.now.clock.now) (SomeShut K.shut)) service.now.id
         (answered_by cursor.now (Some ended) (frame.now ∷ [])) (halt_phase result)
-        (account pass (link_account L.heard L.sent L.counts link.old)) (account pass (link_account L.heard L.sent L.counts link.new)) }
+        (account pass (link_account L.Link link.old)) (account pass (link_account L.Link link.new)) }
 {
     let wants = leave_at(cursor, Ended::WantOfMemory);
     tell_last(service, link, frame, ended, wants)
@@ -184,9 +142,10 @@ pub fn refuse<C: Clock, R: Wait, K: Keeper, L: Link>(
     link: &mut L,
     frame: &ServerFrame,
 ) -> Halt
+    requires { FitsServer frame.now }
     ensures { (pass : PassState) → TalksOn (IsMadeSo (C.gives service.now.clock.now) (SomeShut K.shut)) service.now.id
-        (refused_phase frame.now) (halt_phase result)
-        (account pass (link_account L.heard L.sent L.counts link.old)) (account pass (link_account L.heard L.sent L.counts link.new)) }
+        (refused_phase frame.now) (halt_phase result) (account pass (link_account L.Link link.old))
+        (account pass (link_account L.Link link.new)) }
 {
     let code = code_in(frame);
     let wants = Halt::Over(Ended::WantOfMemory);

@@ -29,8 +29,9 @@ fn talk<C: Clock, R: Wait, K: Keeper, L: Link>(
 ) -> Halt
     requires session { pass.old.session ≡ service.now.shared.now.session }
     ensures kept { pass.new ≡ record pass.old { seen = pass.new.seen } }
-    ensures talk { TalksOn (IsMadeSo (C.gives service.now.clock.now) (SomeShut K.shut)) service.now.id (Opening 0) (halt_phase result)
-        (account pass.old (link_account L.heard L.sent L.counts link.old)) (account pass.new (link_account L.heard L.sent L.counts link.new)) }
+    ensures talk { TalksOn (IsMadeSo (C.gives service.now.clock.now) (SomeShut K.shut)) service.now.id (Opening 0)
+        (halt_phase result) (account pass.old (link_account L.Link link.old))
+        (account pass.new (link_account L.Link link.new)) }
 {
     let bytes = match first_frame(service, link) {
         Ok(bytes) => bytes,
@@ -50,8 +51,9 @@ fn talk_to_end<C: Clock, R: Wait, K: Keeper, L: Link>(
 ) -> Ended
     requires session { pass.old.session ≡ service.now.shared.now.session }
     ensures kept { pass.new ≡ record pass.old { seen = pass.new.seen } }
-    ensures talk { TalksOn (IsMadeSo (C.gives service.now.clock.now) (SomeShut K.shut)) service.now.id (Opening 0) (Over result)
-        (account pass.old (link_account L.heard L.sent L.counts link.old)) (account pass.new (link_account L.heard L.sent L.counts link.new)) }
+    ensures talk { TalksOn (IsMadeSo (C.gives service.now.clock.now) (SomeShut K.shut)) service.now.id (Opening 0)
+        (Over result) (account pass.old (link_account L.Link link.old))
+        (account pass.new (link_account L.Link link.new)) }
 {
     match talk(service, pass, link) {
         Halt::Over(ended) => ended,
@@ -70,8 +72,9 @@ fn serve<C: Clock, R: Wait, K: Keeper, L: Link>(
 ) -> Ended
     requires session { pass.old.session ≡ service.now.shared.now.session }
     ensures kept { pass.new ≡ record pass.old { seen = pass.new.seen } }
-    ensures talk { TalksOn (IsMadeSo (C.gives service.now.clock.now) (SomeShut K.shut)) service.now.id (Opening 0) (Over result)
-        (account pass.old (link_account L.heard L.sent L.counts link.old)) (account pass.new (link_account L.heard L.sent L.counts link.new)) }
+    ensures talk { TalksOn (IsMadeSo (C.gives service.now.clock.now) (SomeShut K.shut)) service.now.id (Opening 0)
+        (Over result) (account pass.old (link_account L.Link link.old))
+        (account pass.new (link_account L.Link link.new)) }
     ensures closed { L.closed link.new ≡ true }
 {
     let ended = talk_to_end(service, pass, link);
@@ -94,7 +97,8 @@ pub fn serve_connection<L: Link, C: Clock, R: Wait, K: Keeper>(
     requires fresh { calls_of (caller pass.old ∷ []) pass.old.seen ≡ [] }
     ensures kept { pass.new ≡ record pass.old { seen = pass.new.seen } }
     ensures later { (rest : List Item) × (pass.old.seen ++ rest ≡ pass.new.seen) }
-    ensures talk { HasTalked (C.gives clock.now) id pass.new (link_account L.heard L.sent L.counts link.old) (link_account L.heard L.sent L.counts link.new) result }
+    ensures talk { HasTalked (C.gives clock.now) id pass.new (link_account L.Link link.old)
+        (link_account L.Link link.new) result }
     ensures exactly { EndsExactly result (exchanges_in pass.new.opening pass.new.seen (caller pass.new)) }
     ensures unkept { result ≡ ended.Unkept → SomeShut K.shut }
     ensures cause { IsCauseCounted (L.counts link.old) (L.counts link.new) result }

@@ -1,7 +1,9 @@
 //! The turns of a connection whose view has joined.
-ghost use Rattle.std.specs.Prelude.{◌≡◌, ◌<◌, ℕ, List, Option, Some, None, IfOk};
+ghost use Rattle.std.specs.Prelude.{◌≡◌, ◌<◌, ℕ, List, Option, Some, None, IfOk, IfSome};
+ghost use Rattle.std.specs.List.{AllByRecursion};
 ghost use Rattle.byte_fields.specs.Fields.{whole};
 ghost use Rattle.tea_io.specs.Links.{most_quiets};
+ghost use Rattle.wire_frames.specs.Frames.{FitsServer};
 ghost use Rattle.wire_frames.specs.Reading.{client_at};
 ghost use Rattle.wire_frames.specs.declared.frame.ServerFrame.{ServerFrame};
 ghost use Rattle.reflector_core.specs.Growth.{GrowsTo};
@@ -9,7 +11,7 @@ ghost use Rattle.session_lock.specs.History.{play_from};
 ghost use Rattle.session_lock.specs.Passes.{PassState};
 ghost use Rattle.join_sync.specs.Requests.{IsOfFrame};
 ghost use Rattle.connection.specs.declared.ending.Ended.{Ended};
-ghost use Rattle.join_sync.specs.Batches.{IsBatchAfter, next_cursor};
+ghost use Rattle.join_sync.specs.Batches.{IsBatchAfter, next_cursor, next_frames};
 ghost use Rattle.system_plain.specs.Steps.{answer_frames};
 ghost use Rattle.reflector_core.specs.declared.request.Reply.{Reply};
 ghost use Rattle.session_lock.specs.Keeping.{SomeShut};
@@ -50,9 +52,11 @@ fn answer<C: Clock, R: Wait, K: Keeper, L: Link>(
     ended: Option<Ended>,
     answer: Option<ServerFrame>,
 ) -> Result<(), Halt>
-    ensures { (pass : PassState) → TalksOrHalts (IsMadeSo (C.gives service.now.clock.now) (SomeShut K.shut)) service.now.id
+    requires { IfSome answer FitsServer }
+    ensures { (pass : PassState)
+        → TalksOrHalts (IsMadeSo (C.gives service.now.clock.now) (SomeShut K.shut)) service.now.id
         (answered_by cursor.now ended (answer_frames answer)) (λ _. Ticking cursor.now 0) result
-        (account pass (link_account L.heard L.sent L.counts link.old)) (account pass (link_account L.heard L.sent L.counts link.new)) }
+        (account pass (link_account L.Link link.old)) (account pass (link_account L.Link link.new)) }
 {
     match (ended, answer) {
         (None, None) => Ok(()),
@@ -77,7 +81,7 @@ fn make<C: Clock, R: Wait, K: Keeper, L: Link>(
     ensures grows { GrowsTo (play_from pass.old.opening pass.old.seen) (play_from pass.new.opening pass.new.seen) }
     ensures talk { TalksOrHalts (IsMadeSo (C.gives service.now.clock.now) (SomeShut K.shut)) service.now.id
         (Asking cursor.now request.now) (λ _. Ticking cursor.now 0) result
-        (account pass.old (link_account L.heard L.sent L.counts link.old)) (account pass.new (link_account L.heard L.sent L.counts link.new)) }
+        (account pass.old (link_account L.Link link.old)) (account pass.new (link_account L.Link link.new)) }
 {
     let reply = match ask(service, pass, request) {
         Ok(reply) => reply,
@@ -98,9 +102,10 @@ fn act<C: Clock, R: Wait, K: Keeper, L: Link>(
     requires session { pass.old.session ≡ service.now.shared.now.session }
     ensures kept { pass.new ≡ record pass.old { seen = pass.new.seen } }
     ensures grows { GrowsTo (play_from pass.old.opening pass.old.seen) (play_from pass.new.opening pass.new.seen) }
-    ensures talk { (bytes : List ℕ) → whole client_at bytes ≡ Some frame → TalksOrHalts (IsMadeSo (C.gives service.now.clock.now) (SomeShut K.shut)) service.now.id
-        (Taking cursor.now bytes) (λ _. Ticking cursor.now 0) result
-        (account pass.old (link_account L.heard L.sent L.counts link.old)) (account pass.new (link_account L.heard L.sent L.counts link.new)) }
+    ensures talk { (bytes : List ℕ) → whole client_at bytes ≡ Some frame
+        → TalksOrHalts (IsMadeSo (C.gives service.now.clock.now) (SomeShut K.shut)) service.now.id
+        (Taking cursor.now bytes) (λ _. Ticking cursor.now 0) result (account pass.old (link_account L.Link link.old))
+        (account pass.new (link_account L.Link link.new)) }
 {
     let now = service.clock.now();
     match cursor.act(frame, now) {
@@ -122,7 +127,7 @@ fn take<C: Clock, R: Wait, K: Keeper, L: Link>(
     ensures grows { GrowsTo (play_from pass.old.opening pass.old.seen) (play_from pass.new.opening pass.new.seen) }
     ensures talk { TalksOrHalts (IsMadeSo (C.gives service.now.clock.now) (SomeShut K.shut)) service.now.id
         (Taking cursor.now bytes.now) (λ _. Ticking cursor.now 0) result
-        (account pass.old (link_account L.heard L.sent L.counts link.old)) (account pass.new (link_account L.heard L.sent L.counts link.new)) }
+        (account pass.old (link_account L.Link link.old)) (account pass.new (link_account L.Link link.new)) }
 {
     match read_client(service.alloc, bytes.bytes()) {
         Ok(frame) => act(service, pass, link, cursor, frame),
@@ -146,13 +151,13 @@ fn receive<C: Clock, R: Wait, K: Keeper, L: Link>(
     ensures row { IfOk result (λ row. row < most_quiets) }
     ensures talk { TalksOrHalts (IsMadeSo (C.gives service.now.clock.now) (SomeShut K.shut)) service.now.id
         (Hearing cursor.now quiets) (λ row. Ticking cursor.now row) result
-        (account pass.old (link_account L.heard L.sent L.counts link.old)) (account pass.new (link_account L.heard L.sent L.counts link.new)) }
+        (account pass.old (link_account L.Link link.old)) (account pass.new (link_account L.Link link.new)) }
 {
     match link.recv() {
-        Heard::Frame(bytes) => match take(service, pass, link, cursor, &bytes) {
-            Ok(()) => Ok(0),
-            Err(halt) => Err(halt),
-        },
+        Heard::Frame(bytes) => {
+            take(service, pass, link, cursor, &bytes)?;
+            Ok(0)
+        }
         Heard::Quiet => {
             if quiets + 1 == MOST_QUIETS {
                 return Err(leave_at(
@@ -181,8 +186,10 @@ fn tick<C: Clock, R: Wait, K: Keeper>(
     requires session { pass.old.session ≡ service.now.shared.now.session }
     ensures kept { pass.new ≡ record pass.old { seen = pass.new.seen } }
     ensures grows { GrowsTo (play_from pass.old.opening pass.old.seen) (play_from pass.new.opening pass.new.seen) }
-    ensures talk { (quiets : ℕ) (link : LinkAccount) → TalksOrHalts (IsMadeSo (C.gives service.now.clock.now) (SomeShut K.shut)) service.now.id
-        (Ticking cursor.now quiets) (λ _. Pulling cursor.now quiets) result (account pass.old link) (account pass.new link) }
+    ensures talk { (quiets : ℕ) (link : LinkAccount)
+        → TalksOrHalts (IsMadeSo (C.gives service.now.clock.now) (SomeShut K.shut)) service.now.id
+        (Ticking cursor.now quiets) (λ _. Pulling cursor.now quiets) result (account pass.old link)
+        (account pass.new link) }
 {
     let now = service.clock.now();
     match ask(service, pass, &Request::Tick { now }) {
@@ -198,11 +205,13 @@ fn hand_out<C: Clock, R: Wait, K: Keeper, L: Link>(
     cursor: &mut Cursor,
     batch: Reply,
 ) -> Result<(), Halt>
-    requires { IsBatchAfter cursor.old.after batch }
+    requires batch { IsBatchAfter cursor.old.after batch }
+    requires fit { AllByRecursion FitsServer (next_frames cursor.old batch) }
     ensures cursor { IfOk result (λ _. cursor.new ≡ next_cursor cursor.old batch) }
-    ensures talk { (pass : PassState) (quiets : ℕ) → TalksOrHalts (IsMadeSo (C.gives service.now.clock.now) (SomeShut K.shut)) service.now.id
+    ensures talk { (pass : PassState) (quiets : ℕ)
+        → TalksOrHalts (IsMadeSo (C.gives service.now.clock.now) (SomeShut K.shut)) service.now.id
         (pulled_phase cursor.old quiets batch) (λ _. Hearing cursor.new quiets) result
-        (account pass (link_account L.heard L.sent L.counts link.old)) (account pass (link_account L.heard L.sent L.counts link.new)) }
+        (account pass (link_account L.Link link.old)) (account pass (link_account L.Link link.new)) }
 {
     let before = *cursor;
     let frames = match cursor.next(service.alloc, batch) {
@@ -223,9 +232,10 @@ fn pull<C: Clock, R: Wait, K: Keeper, L: Link>(
     requires standing { IsStanding (play_from pass.old.opening pass.old.seen) cursor.old }
     ensures kept { pass.new ≡ record pass.old { seen = pass.new.seen } }
     ensures standing { IfOk result (λ _. IsStanding (play_from pass.new.opening pass.new.seen) cursor.new) }
-    ensures talk { (quiets : ℕ) → TalksOrHalts (IsMadeSo (C.gives service.now.clock.now) (SomeShut K.shut)) service.now.id
+    ensures talk { (quiets : ℕ) → TalksOrHalts
+        (IsMadeSo (C.gives service.now.clock.now) (SomeShut K.shut)) service.now.id
         (Pulling cursor.old quiets) (λ _. Hearing cursor.new quiets) result
-        (account pass.old (link_account L.heard L.sent L.counts link.old)) (account pass.new (link_account L.heard L.sent L.counts link.new)) }
+        (account pass.old (link_account L.Link link.old)) (account pass.new (link_account L.Link link.new)) }
 {
     let request = Request::Pull {
         after: cursor.after,
@@ -257,20 +267,11 @@ fn turn<C: Clock, R: Wait, K: Keeper, L: Link>(
     ensures row { IfOk result (λ row. row < most_quiets) }
     ensures talk { TalksOrHalts (IsMadeSo (C.gives service.now.clock.now) (SomeShut K.shut)) service.now.id
         (Ticking cursor.old quiets) (λ row. Ticking cursor.new row) result
-        (account pass.old (link_account L.heard L.sent L.counts link.old)) (account pass.new (link_account L.heard L.sent L.counts link.new)) }
+        (account pass.old (link_account L.Link link.old)) (account pass.new (link_account L.Link link.new)) }
 {
-    match tick(service, pass, cursor) {
-        Ok(()) => {}
-        Err(halt) => return Err(halt),
-    }
-    match pull(service, pass, link, cursor) {
-        Ok(()) => {}
-        Err(halt) => return Err(halt),
-    }
-    match receive(service, pass, link, cursor, quiets) {
-        Ok(row) => Ok(row),
-        Err(halt) => Err(halt),
-    }
+    tick(service, pass, cursor)?;
+    pull(service, pass, link, cursor)?;
+    receive(service, pass, link, cursor, quiets)
 }
 
 /// Takes turns until the talk stops.
@@ -283,8 +284,9 @@ pub fn converse<C: Clock, R: Wait, K: Keeper, L: Link>(
     requires session { pass.old.session ≡ service.now.shared.now.session }
     requires standing { IsStanding (play_from pass.old.opening pass.old.seen) first }
     ensures kept { pass.new ≡ record pass.old { seen = pass.new.seen } }
-    ensures talk { TalksOn (IsMadeSo (C.gives service.now.clock.now) (SomeShut K.shut)) service.now.id (Ticking first 0) (halt_phase result)
-        (account pass.old (link_account L.heard L.sent L.counts link.old)) (account pass.new (link_account L.heard L.sent L.counts link.new)) }
+    ensures talk { TalksOn (IsMadeSo (C.gives service.now.clock.now) (SomeShut K.shut)) service.now.id (Ticking first 0)
+        (halt_phase result) (account pass.old (link_account L.Link link.old))
+        (account pass.new (link_account L.Link link.new)) }
 {
     let mut cursor = first;
     let mut quiets = 0;
@@ -305,7 +307,8 @@ pub fn leave<C: Clock, R: Wait, K: Keeper>(
 )
     requires session { pass.old.session ≡ service.now.shared.now.session }
     ensures kept { pass.new ≡ record pass.old { seen = pass.new.seen } }
-    ensures talk { (ended : Ended) (link : LinkAccount) → TalksOn (IsMadeSo (C.gives service.now.clock.now) (SomeShut K.shut)) service.now.id
+    ensures talk { (ended : Ended) (link : LinkAccount)
+        → TalksOn (IsMadeSo (C.gives service.now.clock.now) (SomeShut K.shut)) service.now.id
         (Leaving cursor.now ended) (Over ended) (account pass.old link) (account pass.new link) }
 {
     let now = service.clock.now();

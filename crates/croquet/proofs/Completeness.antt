@@ -1,22 +1,28 @@
 -- A command whose inputs are right, and no call of which has failed, is done, or runs out of memory.
-use Rattle.std.proofs.Common.{◌≡◌, ◌⊎◌, inl, inr, ℕ, ℤ, ◌≤◌, Bool, true, false, List, [], ◌∷◌, length, replicate, Option, Some, None, Result, Ok, Err, refl, sym, subst}
+use Rattle.std.proofs.Common.{◌≡◌, ◌⊎◌, inl, inr, ℕ, ℤ, ◌≤◌, Bool, true, false, List, [], ◌∷◌, ◌++◌, length, replicate, Option, Some, None, Result, Ok, Err, refl, sym, subst}
 use Rattle.tea_base.specs.declared.want.WantOfMemory.{WantOfMemory}
 use Rattle.tea_io.specs.Told.{Rose}
 use Rattle.run_steps.specs.Steps.{Step, Puts, Prints, Looks}
 use Rattle.run_steps.specs.Outside.{Acts, Cut, FilesTell, LinksTell, NetTells, Outside, OutputTells, WantedMemory, outside_tells}
 use Rattle.command_words.specs.declared.words.Command.{Command}
-use Rattle.command_words.specs.declared.words.Command.TheVariants.{Stamp, Check, Replay, Inspect, Trace, Votes, Hub, Join, Live, Reflect, Drill}
+use Rattle.command_words.specs.declared.words.Command.TheVariants.{Stamp, Check, Replay, Inspect, Trace, Votes, Hub, Join, Live, Reflect, Host, Drill}
 use Rattle.command_words.specs.declared.words.DrillRequest.{DrillRequest}
 use Rattle.connection.specs.declared.ending.Ended.{Ended}
 use Rattle.session_log.specs.Stored.{stored_spelling}
 use Rattle.snapshot_codec.specs.Spelling.{world_spelling}
 use Rattle.world.specs.Worlds.{replay}
 use Rattle.reflector_core.specs.PlainSession.{PlainSession}
+use Rattle.reflector_core.specs.SessionState.{SessionState}
 use Rattle.reflector_core.specs.Stored.{stored_of}
 use Rattle.tea_io.specs.declared.net.NetFault.{NetFault}
 use Rattle.tea_io.specs.declared.net.NetFault.TheVariants as net_fault
 use Rattle.reflect_server.specs.Rounds.{CountsStop}
 use Rattle.reflect_server.specs.declared.reflection.Reflected.{Reflected}
+use Rattle.host_server.specs.declared.hosting.HostEnd.{HostEnd}
+use Rattle.host_server.specs.declared.hosting.Hosted.{Hosted}
+use Rattle.command_host.specs.Hosting.{session_puts}
+use Rattle.command_host.specs.HostedSteps.{hosted_text}
+use Rattle.command_outcome.specs.declared.outcome.Put.{Put}
 use Rattle.reflect_server.specs.declared.reflection.ServeFault.{ServeFault}
 use Rattle.reflect_server.specs.declared.reflection.ServeFault.TheVariants as serve_fault
 use Rattle.command_outcome.specs.Outcome.{numbered_puts, optional_put, steps_of}
@@ -26,7 +32,7 @@ use Rattle.drill.specs.Drill.{drill_id}
 use Rattle.drill.specs.Ending.{root_total}
 use Rattle.drill.specs.declared.report.DrillReport.{DrillReport}
 use Rattle.commands.specs.Laws.{AreAlike, IsFunction, TellsPlace}
-use Rattle.commands.specs.Verdict.{ByDrill, ByReflecting, ByVisit, ByWant, Closing, Coming, Comes, Fine, Free, OfEnds, OfWords, Only, PlainReflection, PlainVisit, Verdict, fine, reflected_verdict}
+use Rattle.commands.specs.Verdict.{ByDrill, ByHosting, ByReflecting, ByVisit, ByWant, Closing, Coming, Comes, Fine, Free, OfEnds, OfHostEnds, OfWords, Only, PlainHosting, PlainReflection, PlainVisit, Verdict, behind, fine, put_steps}
 use Rattle.commands.specs.Work.{AsksNoLive, NamesNoJournal}
 use Rattle.commands.proofs.NetLaws.{never_keeps, never_lives}
 use Rattle.journal_store.specs.Stores.{StoresTell}
@@ -34,11 +40,12 @@ use Rattle.live_shell.specs.LiveSteps.{FeedTells}
 use Rattle.croquet.specs.declared.status.Status.{Status}
 use Rattle.croquet.specs.Complete.{HasRightInput, IsByPeer, IsComplete, IsDone, IsDueOf, NoLinkFailed, NoneFailed}
 use Rattle.croquet.specs.Drills.{OfDrilled}
-use Rattle.croquet.specs.Run.{Concludes, Ending, OutOfMemory, OfReflected, Ran, RanAlone, RanAsDrill, RanAsReflector, RanBySteps, ServesNet, Visits}
+use Rattle.croquet.specs.Run.{Concludes, Ending, OutOfMemory, OfHosted, OfReflected, Ran, RanAlone, RanAsDrill, RanAsHost, RanAsReflector, RanBySteps, ServesHost, ServesNet, Visits}
 use Rattle.view_follows.specs.Answered.{AnsweredVisitsHaveNoFault, VisitsEndByRefusals, VisitsEndWithLinks}
 use Rattle.croquet.proofs.Causes.{is_caused}
 use Rattle.croquet.proofs.Counts.{CountsStay, EndsDone, EndsSaid, counts_on, counts_stay, done_by, net_moves, none_in_steps, none_within, rose_within, run_keeps, said_by, steps_keep}
 use Rattle.croquet.proofs.LinkCounts.{HasFailed, IsCutByWant, cut_by_want, faults, rises, steps_lower_none}
+use Rattle.croquet.proofs.ReflectorRuns.{closed_with}
 use Rattle.croquet.proofs.RightSteps.{AreRight, IsGiving, giving_are_right, goes_along}
 use Rattle.croquet.proofs.RightVerdicts.{ClosesByVisit, ClosesWell, ComesRight, giving, words_right}
 use Rattle.croquet.proofs.VisitEnds.{visit_said}
@@ -76,21 +83,40 @@ reflected_gives : (log : Option (List ℕ)) (ends : List Ended) (session : Plain
 reflected_gives log ends session = giving (optional_put log (reflected_bytes session)) (reflected_text ends session)
 
 -- the text was printed, and nothing failed
-text_alike : (ends : List Ended) (session : PlainSession) (stopped : Option NetFault) (verdict : Verdict) → (stopped ≡ Some net_fault.Failed → ⊥) → Free (Only (reflected_verdict ends session false stopped)) verdict
-    → AreAlike (Prints (reflected_text ends session) ∷ []) Fine verdict.steps verdict.closing
-text_alike ends session None verdict fine comes = free_alike (Prints (reflected_text ends session) ∷ []) verdict tt comes
-text_alike ends session (Some net_fault.Failed) verdict fine comes = absurd (fine refl)
-text_alike ends session (Some net_fault.WantOfMemory) verdict fine (inl want) =
-    subst (λ (v : Verdict). AreAlike (Prints (reflected_text ends session) ∷ []) Fine v.steps v.closing) (sym want) (want_alike (Prints (reflected_text ends session) ∷ []))
-text_alike ends session (Some net_fault.WantOfMemory) verdict fine (inr is) =
-    subst (λ (v : Verdict). AreAlike (Prints (reflected_text ends session) ∷ []) Fine v.steps v.closing) (sym is) (short_alike (Prints (reflected_text ends session) ∷ []) tt)
+text_alike : (text : List ℕ) (stopped : Option NetFault) (verdict : Verdict) → (stopped ≡ Some net_fault.Failed → ⊥) → Free (Only (closed_with text false stopped)) verdict
+    → AreAlike (Prints text ∷ []) Fine verdict.steps verdict.closing
+text_alike text None verdict fine comes = free_alike (Prints text ∷ []) verdict tt comes
+text_alike text (Some net_fault.Failed) verdict fine comes = absurd (fine refl)
+text_alike text (Some net_fault.WantOfMemory) verdict fine (inl want) =
+    subst (λ (v : Verdict). AreAlike (Prints text ∷ []) Fine v.steps v.closing) (sym want) (want_alike (Prints text ∷ []))
+text_alike text (Some net_fault.WantOfMemory) verdict fine (inr is) =
+    subst (λ (v : Verdict). AreAlike (Prints text ∷ []) Fine v.steps v.closing) (sym is) (short_alike (Prints text ∷ []) tt)
 
 reflected_alike
     : (log : Option (List ℕ)) (ends : List Ended) (session : PlainSession) (stopped : Option NetFault) (verdict : Verdict) → (stopped ≡ Some net_fault.Failed → ⊥) → OfEnds log ends session false stopped verdict
     → AreAlike (reflected_steps log ends session) Fine verdict.steps verdict.closing
-reflected_alike None ends session stopped verdict fine comes = text_alike ends session stopped verdict fine comes
+reflected_alike None ends session stopped verdict fine comes = text_alike (reflected_text ends session) stopped verdict fine comes
 reflected_alike (Some name) ends session stopped verdict fine (rest, is, comes) =
-    subst (λ (v : Verdict). AreAlike (reflected_steps (Some name) ends session) Fine v.steps v.closing) (sym is) (refl, text_alike ends session stopped rest fine comes)
+    subst (λ (v : Verdict). AreAlike (reflected_steps (Some name) ends session) Fine v.steps v.closing) (sym is) (refl, text_alike (reflected_text ends session) stopped rest fine comes)
+
+-- what is put and printed of sessions that were hosted
+abbrev hosted_steps : List (List ℕ) → List HostEnd → List SessionState → List Step
+hosted_steps logs ends sessions = put_steps (session_puts logs sessions) ++ Prints (hosted_text ends sessions) ∷ []
+
+puts_give : (puts : List Put) (text : List ℕ) → IsGiving (put_steps puts ++ Prints text ∷ [])
+puts_give [] text = tt
+puts_give (put ∷ puts) text = puts_give puts text
+
+puts_alike : (puts : List Put) (steps more : List Step) (closing : Closing) → AreAlike steps Fine more closing → AreAlike (put_steps puts ++ steps) Fine (put_steps puts ++ more) closing
+puts_alike [] steps more closing alike = alike
+puts_alike (put ∷ puts) steps more closing alike = (refl, puts_alike puts steps more closing alike)
+
+hosted_alike
+    : (logs : List (List ℕ)) (ends : List HostEnd) (sessions : List SessionState) (stopped : Option NetFault) (verdict : Verdict) → (stopped ≡ Some net_fault.Failed → ⊥) → OfHostEnds logs ends sessions stopped verdict
+    → AreAlike (hosted_steps logs ends sessions) Fine verdict.steps verdict.closing
+hosted_alike logs ends sessions stopped verdict fine (rest, is, comes) =
+    subst (λ (v : Verdict). AreAlike (hosted_steps logs ends sessions) Fine v.steps v.closing) (sym is)
+    (puts_alike (session_puts logs sessions) (Prints (hosted_text ends sessions) ∷ []) rest.steps rest.closing (text_alike (hosted_text ends sessions) stopped rest fine comes))
 
 -- and of a drill
 
@@ -111,6 +137,7 @@ module _ {F W N L : Type 0} (files : FilesTell F) (out : OutputTells W) (net : N
   ends_well Fine more ending cut mid new right ends acts =
       ends_fine cut ending mid new (subst (λ (s : List Step). Acts (outside_tells files out net links) s cut mid new) ends.0 acts) (refl, ends.1)
   ends_well (ByReflecting reflection) more ending cut mid new right never acts = absurd never
+  ends_well (ByHosting hosting) more ending cut mid new right never acts = absurd never
   ends_well (ByDrill request) more ending cut mid new right never acts = absurd never
   ends_well closing more ending cut mid new never ends acts = absurd never
 
@@ -218,27 +245,48 @@ module _ {F W N L : Type 0} (files : FilesTell F) (out : OutputTells W) (net : N
     later_at (Some net_fault.WantOfMemory) counts = counts
 
     told
-        : (log : Option (List ℕ)) (ends : List Ended) (session : PlainSession) (stopped : Option NetFault) (coming : Coming) → ((v : Verdict) → coming v → OfEnds log ends session false stopped v)
+        : (steps : List Step) (stopped : Option NetFault) (coming : Coming) → IsGiving steps → ((v : Verdict) → (stopped ≡ Some net_fault.Failed → ⊥) → coming v → AreAlike steps Fine v.steps v.closing)
         → CountsStop (net.faults ready.net) (net.faults served.net) stopped → served ≡ record ready { net = served.net }
         → (ran : RanBySteps (outside_tells files out net links) coming served new result) → CountsStay files out net served new → IsDone result
-    told log ends session stopped coming leads counts is ran last =
-        done_alike (reflected_steps log ends session) coming served new result ran (reflected_gives log ends session)
-        (reflected_alike log ends session stopped ran.course.verdict (λ failed. net_is_fine last (rose_at stopped failed counts)) (leads ran.course.verdict ran.course.comes)) (none_behind (later_at stopped counts) is)
+    told steps stopped coming gives alike counts is ran last =
+        done_alike steps coming served new result ran gives
+        (alike ran.course.verdict (λ failed. net_is_fine last (rose_at stopped failed counts)) ran.course.comes) (none_behind (later_at stopped counts) is)
 
     answered
         : (reflection : PlainReflection) (answer : Result Reflected ServeFault) → ServesNet gives (outside_tells files out net links) reflection answer ready served
         → (ran : RanBySteps (outside_tells files out net links) (OfReflected reflection.log answer) served new result) → CountsStay files out net served new → IsDone result
     answered reflection (Ok reflected) serves ran last =
-        told reflection.log reflected.ends reflected.session.plain reflected.stopped (OfReflected reflection.log (Ok reflected)) (λ v comes. comes) serves.0.faults serves.1 ran last
+        let log = reflection.log in
+        let ends = reflected.ends in
+        let session = reflected.session.plain in
+        told (reflected_steps log ends session) reflected.stopped (OfReflected log (Ok reflected)) (reflected_gives log ends session)
+        (λ v fine comes. reflected_alike log ends session reflected.stopped v fine comes) serves.0.faults serves.1 ran last
     answered reflection (Err serve_fault.ListenFault) serves ran last = absurd (net_is_fine last serves.0.faults)
     answered reflection (Err serve_fault.WantOfMemory) serves ran last =
         done_giving [] (OfReflected reflection.log (Err serve_fault.WantOfMemory)) served new result ran tt (inl ran.course.comes) (none_behind serves.0.faults serves.1)
+
+    hosted
+        : (hosting : PlainHosting) (answer : Result Hosted ServeFault) → ServesHost gives (outside_tells files out net links) hosting answer ready served
+        → (ran : RanBySteps (outside_tells files out net links) (OfHosted hosting.logs answer) served new result) → CountsStay files out net served new → IsDone result
+    hosted hosting (Ok host) serves ran last =
+        told (hosted_steps hosting.logs host.ends host.sessions) host.stopped (OfHosted hosting.logs (Ok host)) (puts_give (session_puts hosting.logs host.sessions) (hosted_text host.ends host.sessions))
+        (λ v fine comes. hosted_alike hosting.logs host.ends host.sessions host.stopped v fine comes) serves.0.faults serves.1 ran last
+    hosted hosting (Err serve_fault.ListenFault) serves ran last = absurd (net_is_fine last serves.0.faults)
+    hosted hosting (Err serve_fault.WantOfMemory) serves ran last =
+        done_giving [] (OfHosted hosting.logs (Err serve_fault.WantOfMemory)) served new result ran tt (inl ran.course.comes) (none_behind serves.0.faults serves.1)
 
   as_reflector
       : (gives : ℕ → Type 0) (coming : Coming) (old new : Outside F W N L) (result : Status) → RanAsReflector gives (outside_tells files out net links) coming old new result → NoneFailed files out net old new → IsDone result
   as_reflector gives coming old new result ran none =
       answered gives old ran.ready ran.served new result (steps_keep files out net links ran.reaches.steps None old ran.ready ran.reaches.acts) none
       ran.reflection ran.answer ran.serves ran.behind
+      (run_keeps files out net links ran.behind.steps ran.behind.ending ran.served new result ran.behind.does)
+
+  as_host
+      : (gives : ℕ → Type 0) (coming : Coming) (old new : Outside F W N L) (result : Status) → RanAsHost gives (outside_tells files out net links) coming old new result → NoneFailed files out net old new → IsDone result
+  as_host gives coming old new result ran none =
+      hosted gives old ran.ready ran.served new result (steps_keep files out net links ran.reaches.steps None old ran.ready ran.reaches.acts) none
+      ran.hosting ran.answer ran.serves ran.behind
       (run_keeps files out net links ran.behind.steps ran.behind.ending ran.served new result ran.behind.does)
 
   -- ---- as a drill
@@ -272,7 +320,8 @@ module _ {F W N L : Type 0} (files : FilesTell F) (out : OutputTells W) (net : N
       → HasRightInput files old.files command → NoneFailed files out net old new → NoLinkFailed net command old.net new.net → IsDueOf command result
   comes_due function gives command old new result (inl ran) right none fine = by_steps function command old new result ran right none fine
   comes_due function gives command old new result (inr (inl ran)) right none fine = due_by command result (as_reflector gives (Comes command) old new result ran none)
-  comes_due function gives command old new result (inr (inr ran)) right none fine = due_by command result (as_drill gives (Comes command) old new result ran none)
+  comes_due function gives command old new result (inr (inr (inl ran))) right none fine = due_by command result (as_host gives (Comes command) old new result ran none)
+  comes_due function gives command old new result (inr (inr (inr ran))) right none fine = due_by command result (as_drill gives (Comes command) old new result ran none)
 
   -- where its inputs are right, the command names no journal
   names_none : (command : Option Command) (old : F) → HasRightInput files old command → NamesNoJournal command
@@ -287,6 +336,7 @@ module _ {F W N L : Type 0} (files : FilesTell F) (out : OutputTells W) (net : N
   names_none (Some (Join request)) old right = tt
   names_none (Some (Live request)) old right = tt
   names_none (Some (Reflect request)) old right = right.0
+  names_none (Some (Host request)) old right = tt
   names_none (Some (Drill request)) old right = tt
 
   -- and asks for no view whose lines come to its run
@@ -302,6 +352,7 @@ module _ {F W N L : Type 0} (files : FilesTell F) (out : OutputTells W) (net : N
   lives_none (Some (Join request)) old right = tt
   lives_none (Some (Live request)) old right = absurd right
   lives_none (Some (Reflect request)) old right = tt
+  lives_none (Some (Host request)) old right = tt
   lives_none (Some (Drill request)) old right = tt
 
   due_of_all

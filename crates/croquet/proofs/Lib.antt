@@ -4,6 +4,7 @@ pub mod Runs
 pub mod VisitRuns
 pub mod LiveRuns
 pub mod ReflectorRuns
+pub mod HostRuns
 pub mod DrillRuns
 pub mod Counts
 pub mod LinkCounts

@@ -1,6 +1,6 @@
 -- The run of a live view, and a command that goes on as one.
 use Rattle.std.proofs.Common.{◌≡◌, inl, inr, ℕ, List, [], Option, Some, None, refl}
-use Rattle.run_steps.specs.Outside.{Came, Well, Failed, WantedMemory, FilesTell, OutputTells, NetTells, LinksTell, desk, desk_tells, outside, outside_tells}
+use Rattle.run_steps.specs.Outside.{Came, Well, Failed, WantedMemory, FilesTell, OutputTells, NetTells, LinksTell, files_side, files_side_tells, outside, outside_tells}
 use Rattle.run_steps.proofs.Beside.{all_beside_net}
 use Rattle.view_shell.specs.declared.ending.ViewEnd.{ViewEnd}
 use Rattle.view_shell.specs.declared.ending.ViewEnd.TheVariants as view_end
@@ -101,7 +101,7 @@ module _ {K W N L : Type 0} (feed : FeedTells K) (out : OutputTells W) (net : Ne
 pub ran_living
     : {K F W N L : Type 0} (files : FilesTell F) (feed : FeedTells K) (out : OutputTells W) (net : NetTells N L) (links : LinksTell L) (coming : Coming) (live : PlainLive)
     (k k' : K) (f f' : F) (w next w' : W) (n n' : N) (result : Status)
-    → Reaches (desk_tells files out) coming (ByLive live) (desk f w) (desk f' next) → LiveViewRan (live_tells feed out net links) live k k' next w' n n' result
+    → Reaches (files_side_tells files out) coming (ByLive live) (files_side f w) (files_side f' next) → LiveViewRan (live_tells feed out net links) live k k' next w' n n' result
     → RanAsLive (outside_tells files out net links) feed coming (outside f w n None) (outside f' w' n' None) k k' result
 ran_living files feed out net links coming live k k' f f' w next w' n n' result reached ran = record {
   live = live;
@@ -109,7 +109,7 @@ ran_living files feed out net links coming live k k' f f' w next w' n n' result 
   reaches = record {
     steps = reached.steps;
     comes = reached.comes;
-    acts = all_beside_net net links (desk_tells files out) n refl refl reached.steps None (desk f w) (desk f' next) reached.acts;
+    acts = all_beside_net net links (files_side_tells files out) n refl refl reached.steps None (files_side f w) (files_side f' next) reached.acts;
   };
   end = ran.end;
   lived = outside f' ran.said n' None;

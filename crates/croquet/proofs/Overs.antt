@@ -16,4 +16,5 @@ module _ {F W N L : Type 0} (tells : OutsideTells F W N L) (command : Option Com
   over_by (turn.Lives start) other turns = absurd (never_goes_on command other _ turns.comes tt)
   over_by (turn.Reflects reflection) other turns = absurd (never_goes_on command other _ turns.comes tt)
   over_by (turn.Keeps keeping) other turns = absurd (never_goes_on command other _ turns.comes tt)
+  over_by (turn.Hosts hosting) other turns = absurd (never_goes_on command other _ turns.comes tt)
   over_by (turn.Drills request) other turns = absurd (never_goes_on command other _ turns.comes tt)

@@ -3,8 +3,6 @@ use Rattle.std.proofs.Common.{◌≡◌, inl, inr, ℕ, Bool, true, false, List,
 use Rattle.tea_io.specs.declared.net.NetCall.TheVariants.{Listen}
 use Rattle.tea_io.specs.declared.net.NetFault.{NetFault}
 use Rattle.tea_io.specs.declared.net.NetFault.TheVariants as net_fault
-use Rattle.connection.specs.declared.ending.Ended.{Ended}
-use Rattle.reflector_core.specs.PlainSession.{PlainSession}
 use Rattle.reflect_server.specs.Reflects.{Reflects}
 use Rattle.reflect_server.specs.Opening.{gives_later}
 use Rattle.reflect_server.specs.declared.reflection.Reflected.{Reflected}
@@ -13,11 +11,10 @@ use Rattle.reflect_server.specs.declared.reflection.ServeFault.TheVariants.{List
 use Rattle.reflect_server.specs.declared.reflection.KeptFault.{KeptFault}
 use Rattle.reflect_server.specs.declared.reflection.KeptFault.TheVariants as kept_fault
 use Rattle.run_steps.specs.Steps.{Step, Looks, Prints, Puts}
-use Rattle.run_steps.specs.Outside.{Acts, Came, Failed, WantedMemory, Well, FilesTell, LooksAt, OutputTells, PutsFile, NetTells, LinksTell, desk, desk_tells, outside, outside_tells}
+use Rattle.run_steps.specs.Outside.{Acts, Came, Failed, WantedMemory, Well, FilesTell, LooksAt, OutputTells, PutsFile, NetTells, LinksTell, files_side, files_side_tells, outside, outside_tells}
 use Rattle.run_steps.proofs.Beside.{all_beside_net}
 use Rattle.command_outcome.specs.declared.outcome.Put.{Put}
-use Rattle.command_reflect.specs.ReflectedSteps.{reflected_text}
-use Rattle.commands.specs.Verdict.{Closing, OfLooked, OfReady, ByNetFault, ByReflecting, ByWant, ByWriteFault, Coming, Free, Only, PlainReflection, Then, at_once, before, reflected_closing, reflected_verdict}
+use Rattle.commands.specs.Verdict.{Closing, OfLooked, OfReady, ByNetFault, ByReflecting, ByWant, ByWriteFault, Coming, Free, Only, PlainReflection, Then, Verdict, at_once, before, reflected_closing}
 use Rattle.croquet.specs.declared.status.Status.{Status}
 use Rattle.croquet.specs.Calls.{LooksOrEnds, TellsNoPlace, TellsUnput, fault_ending, kept_fault_ending, reflected_ending}
 use Rattle.croquet.specs.Run.{Concludes, Ending, on_net_fault, on_write_fault, OutOfMemory, OfKept, OfReflected, RanAsReflector, Reaches, TellsCut, TellsEnding}
@@ -31,14 +28,18 @@ concludes false None = (refl, refl)
 concludes false (Some net_fault.Failed) = (refl, refl)
 concludes false (Some net_fault.WantOfMemory) = (refl, refl)
 
--- what was done with the text of a session, to the end of the run or to a cut
-module _ {F W : Type 0} (files : FilesTell F) (out : OutputTells W) (ends : List Ended) (session : PlainSession) (unkept : Bool) (stopped : Option NetFault) (steps : List Step) (same : steps ≡ Prints (reflected_text ends session) ∷ []) (f f' : F) (w w' : W) (result : Status) where
-  ran_with : DoesAll files out steps (reflected_ending unkept stopped) f w f' w' result → RanSo files out (Free (Only (reflected_verdict ends session unkept stopped))) f w f' w' result
+-- a text is printed, and the run is closed as it is after its reflector or its host
+abbrev pub closed_with : List ℕ → Bool → Option NetFault → Verdict
+closed_with text unkept stopped = record { steps = Prints text ∷ []; closing = reflected_closing unkept stopped }
+
+-- what was done with the text, to the end of the run or to a cut
+module _ {F W : Type 0} (files : FilesTell F) (out : OutputTells W) (text : List ℕ) (unkept : Bool) (stopped : Option NetFault) (steps : List Step) (same : steps ≡ Prints text ∷ []) (f f' : F) (w w' : W) (result : Status) where
+  ran_with : DoesAll files out steps (reflected_ending unkept stopped) f w f' w' result → RanSo files out (Free (Only (closed_with text unkept stopped))) f w f' w' result
   ran_with does = record {
-    steps = Prints (reflected_text ends session) ∷ [];
+    steps = Prints text ∷ [];
     ending = reflected_ending unkept stopped;
     course = record {
-      verdict = reflected_verdict ends session unkept stopped;
+      verdict = closed_with text unkept stopped;
       comes = inr refl;
       more = [];
       concludes = concludes unkept stopped;
@@ -48,16 +49,16 @@ module _ {F W : Type 0} (files : FilesTell F) (out : OutputTells W) (ends : List
   }
 
   -- the text was printed, or this was cut
-  pub ran_cut : ((ending : Ending) → DoesAll files out steps ending f w f' w' result) → RanSo files out (Free (Only (reflected_verdict ends session unkept stopped))) f w f' w' result
+  pub ran_cut : ((ending : Ending) → DoesAll files out steps ending f w f' w' result) → RanSo files out (Free (Only (closed_with text unkept stopped))) f w f' w' result
   ran_cut does = ran_with (does (reflected_ending unkept stopped))
 
 -- it was printed, and the end was told
-module _ {F W : Type 0} (files : FilesTell F) (out : OutputTells W) (ends : List Ended) (session : PlainSession) (unkept : Bool) (stopped : Option NetFault) (steps : List Step) (same : steps ≡ Prints (reflected_text ends session) ∷ []) (f f' : F) (w next w' : W) (result : Status) where
+module _ {F W : Type 0} (files : FilesTell F) (out : OutputTells W) (text : List ℕ) (unkept : Bool) (stopped : Option NetFault) (steps : List Step) (same : steps ≡ Prints text ∷ []) (f f' : F) (w next w' : W) (result : Status) where
   pub ran_told
-      : Acts (desk_tells files out) steps None (desk f w) (desk f' next) → TellsEnding out (reflected_ending unkept stopped) next w' result
-      → RanSo files out (Free (Only (reflected_verdict ends session unkept stopped))) f w f' w' result
+      : Acts (files_side_tells files out) steps None (files_side f w) (files_side f' next) → TellsEnding out (reflected_ending unkept stopped) next w' result
+      → RanSo files out (Free (Only (closed_with text unkept stopped))) f w f' w' result
   ran_told acts told =
-      ran_with files out ends session unkept stopped steps same f f' w w' result
+      ran_with files out text unkept stopped steps same f f' w w' result
       (does_so files out steps None (reflected_ending unkept stopped) f f' w next w' result acts told)
 
 -- a file was put, and the run goes on after it
@@ -73,7 +74,7 @@ ran_put {W = W} files out put coming f mid f' w quiet w' result same well ran =
       does = record {
         cut = on.does.cut;
         done = on.does.done;
-        acts = inl (desk mid w, (well, refl), on.does.acts);
+        acts = inl (files_side mid w, (well, refl), on.does.acts);
         left = on.does.left;
         goes_back = on.does.goes_back;
         told = on.does.told;
@@ -83,7 +84,7 @@ ran_put {W = W} files out put coming f mid f' w quiet w' result same well ran =
 -- the run was cut at a put
 cut_at_put
     : {F W : Type 0} (files : FilesTell F) (out : OutputTells W) (put : Put) (next : Coming) (came : Came) (f f' : F) (w w' : W) (result : Status)
-    → Acts (desk_tells files out) (Puts put.name put.bytes ∷ []) (Some (record { step = Puts put.name put.bytes; came = came })) (desk f w) (desk f' w)
+    → Acts (files_side_tells files out) (Puts put.name put.bytes ∷ []) (Some (record { step = Puts put.name put.bytes; came = came })) (files_side f w) (files_side f' w)
     → TellsCut out came (Puts put.name put.bytes) w w' result → RanSo files out (Then (Puts put.name put.bytes) (Free next)) f w f' w' result
 cut_at_put files out put next came f f' w w' result acts told = record {
   steps = Puts put.name put.bytes ∷ [];
@@ -110,18 +111,18 @@ ran_unput files out put next f f' w w' result (inr (wanted, told)) = cut_at_put 
 -- the run has looked at the name of the log, if there is one, and goes on
 pub looked_on
     : {F W : Type 0} (files : FilesTell F) (out : OutputTells W) (log : Option (List ℕ)) (closing : Closing) (f f' : F) (w w' : W)
-    → LooksOrEnds files out log (Ok tt) f w f' w' → Reaches (desk_tells files out) (OfLooked log (Only (at_once closing))) closing (desk f w) (desk f' w')
-looked_on files out None closing f f' w w' (same, quiet) = record { steps = []; comes = refl; acts = ap (λ (g : _). desk g w') same ∙ ap (desk f) quiet }
+    → LooksOrEnds files out log (Ok tt) f w f' w' → Reaches (files_side_tells files out) (OfLooked log (Only (at_once closing))) closing (files_side f w) (files_side f' w')
+looked_on files out None closing f f' w w' (same, quiet) = record { steps = []; comes = refl; acts = ap (λ (g : _). files_side g w') same ∙ ap (files_side f) quiet }
 looked_on files out (Some name) closing f f' w w' (looks, quiet) = record {
   steps = Looks name ∷ [];
   comes = (at_once closing, refl, inr refl);
-  acts = inl (desk f' w', (looks, ap (desk f') quiet), refl);
+  acts = inl (files_side f' w', (looks, ap (files_side f') quiet), refl);
 }
 
 -- the run was cut at a look
 cut_at_look
     : {F W : Type 0} (files : FilesTell F) (out : OutputTells W) (name : List ℕ) (next : Coming) (came : Came) (f f' : F) (w w' : W) (result : Status)
-    → Acts (desk_tells files out) (Looks name ∷ []) (Some (record { step = Looks name; came = came })) (desk f w) (desk f' w)
+    → Acts (files_side_tells files out) (Looks name ∷ []) (Some (record { step = Looks name; came = came })) (files_side f w) (files_side f' w)
     → TellsCut out came (Looks name) w w' result → RanSo files out (Then (Looks name) (Free next)) f w f' w' result
 cut_at_look files out name next came f f' w w' result acts told = record {
   steps = Looks name ∷ [];
@@ -168,7 +169,7 @@ ran_unkept files out log unkept kept_fault.Unkept f w w' result told = ran_close
 pub ran_reflecting
     : {F W N L : Type 0} (gives : ℕ → Type 0) (files : FilesTell F) (out : OutputTells W) (net : NetTells N L) (links : LinksTell L) (coming : Coming) (reflection : PlainReflection) (answer : Result Reflected ServeFault)
     (f mid f' : F) (w next w' : W) (n n' : N) (result : Status)
-    → Reaches (desk_tells files out) coming (ByReflecting reflection) (desk f w) (desk mid next)
+    → Reaches (files_side_tells files out) coming (ByReflecting reflection) (files_side f w) (files_side mid next)
     → Reflects (gives_later gives reflection.opening.horizon) (record { 0 = reflection.id }) reflection.opening net links (Listen reflection.address ∷ []) reflection.connections n n' answer
     → RanSo files out (OfReflected reflection.log answer) mid next f' w' result
     → RanAsReflector gives (outside_tells files out net links) coming (outside f w n None) (outside f' w' n' None) result
@@ -178,7 +179,7 @@ ran_reflecting gives files out net links coming reflection answer f mid f' w nex
   reaches = record {
     steps = reached.steps;
     comes = reached.comes;
-    acts = all_beside_net net links (desk_tells files out) n refl refl reached.steps None (desk f w) (desk mid next) reached.acts;
+    acts = all_beside_net net links (files_side_tells files out) n refl refl reached.steps None (files_side f w) (files_side mid next) reached.acts;
   };
   answer = answer;
   served = outside mid next n' None;

@@ -1,7 +1,9 @@
 -- The verdict that is due where the inputs of a command are right.
-use Rattle.std.proofs.Common.{◌≡◌, inl, inr, ℕ, Bool, true, List, [], ◌∷◌, encode_utf8_all, Option, Some, None, refl, sym, subst}
+use Rattle.std.proofs.Common.{◌≡◌, inl, inr, ℕ, Bool, true, List, [], ◌∷◌, ◌++◌, encode_utf8_all, Option, Some, None, append_assoc, refl, sym, subst}
+use Rattle.std.proofs.lemmas.List.{append-nil}
 use Rattle.std.proofs.lemmas.Bool.{le-leb}
 use Rattle.tea_base.specs.declared.entry.Entry.{Entry}
+use Rattle.tea_base.specs.declared.entry.SessionId.{SessionId}
 use Rattle.session_log.specs.Stored.{stored_spelling}
 use Rattle.reflector_core.specs.declared.request.Request.{Request}
 use Rattle.reflector_core.specs.PlainSession.{PlainSession}
@@ -37,27 +39,38 @@ use Rattle.command_words.specs.declared.words.InspectRequest.{InspectRequest}
 use Rattle.command_words.specs.declared.words.TraceRequest.{TraceRequest}
 use Rattle.command_words.specs.declared.words.JoinRequest.{JoinRequest}
 use Rattle.command_words.specs.declared.words.ReflectRequest.{ReflectRequest}
+use Rattle.command_words.specs.declared.words.HostRequest.{HostRequest}
 use Rattle.command_words.specs.declared.words.Command.{Command}
-use Rattle.command_words.specs.declared.words.Command.TheVariants.{Stamp, Check, Replay, Inspect, Trace, Votes, Hub, Join, Live, Reflect, Drill}
+use Rattle.command_words.specs.declared.words.Command.TheVariants.{Stamp, Check, Replay, Inspect, Trace, Votes, Hub, Join, Live, Reflect, Host, Drill}
 use Rattle.model_tree.specs.Bounds.{most_program_bytes}
 use Rattle.tea_base.specs.Limits.{most_snapshot}
 use Rattle.command_hub.specs.declared.script.HubLine.{HubLine}
 use Rattle.command_hub.specs.HubScript.{hub_script_of}
 use Rattle.command_hub.specs.HubRun.{hub_puts, hub_run}
-use Rattle.commands.specs.Verdict.{ByDrill, ByKeeping, ByReflecting, ByVisit, Closing, Coming, Fine, OfFile, OfInspectedLog, OfInspect, OfJoin, OfJournal, OfKeyframes, OfOpening, OfProgram, OfQueries, OfReflect, OfRight, OfScript, OfServed, OfSnapshot, OfLog, OfOwn, OfReflected, IsLog, PlainReflection, PlainSource, first_source, names_no_other, trace_verdict, OfTimeLine, OfTrace, OfTraced, OfTracedLog, OfTree, OfUnkept, OfView, OfViewScript, OfWords, Only, Starts, Verdict, OfFounded, OfJson, OfPersisted, OfRecorded, ask_file, at_once, before, count_verdict, fine, founded, inspect_verdict, keeping_of, keeps_few, most_queries, most_script, reflection_of, session_id_of, stamp_verdict, visit_to, votes_verdict, world_puts, most_log, OfHubScript, OfLooked, OfReady}
+use Rattle.host_config.specs.Config.{config_of}
+use Rattle.host_config.specs.Programs.{programs_of}
+use Rattle.host_config.specs.declared.reading.SessionLine.{SessionLine}
+use Rattle.commands.specs.declared.hosting.ReadProgram.{ReadProgram}
+use Rattle.commands.specs.Verdict.{ByDrill, ByHosting, ByKeeping, ByReflecting, ByVisit, Closing, Coming, Fine, OfConfig, OfFile, OfHostIds, OfHostPrograms, OfHostReady, OfInspectedLog, OfInspect, OfJoin, OfJournal, OfKeyframes, OfOpening, OfProgram, OfQueries, OfReflect, OfRight, OfScript, OfServed, OfSnapshot, OfLog, OfOwn, OfReflected, IsLog, PlainHosting, PlainReflection, PlainSource, first_source, names_no_other, trace_verdict, OfTimeLine, OfTrace, OfTraced, OfTracedLog, OfTree, OfUnkept, OfView, OfViewScript, OfWords, Only, Starts, Verdict, are_apart, behind, host_ids, hosting_of, look_steps, most_config, OfFounded, OfJson, OfPersisted, OfRecorded, ask_file, at_once, before, count_verdict, fine, founded, inspect_verdict, keeping_of, keeps_few, most_queries, most_script, reflection_of, session_id_of, stamp_verdict, visit_to, votes_verdict, world_puts, most_log, OfHubScript, OfLooked, OfReady}
 use Rattle.commands.proofs.Agreement.{late_verdict}
-use Rattle.croquet.specs.Complete.{HasRightInput, HoldsFile, HoldsInspection, HoldsOpening, HoldsPersisted, HoldsProgram, HoldsRecording, HoldsStart, HoldsTrace, IsJsonText, IsAny, IsLogText, IsOwn, IsQueriesText, IsHubScriptText, IsHubScriptText, IsScriptText, IsSnapshotUntil, IsProgramText, IsViewScriptText, NamesAddress, persisted_in}
+use Rattle.croquet.specs.Complete.{HasRightInput, HoldPrograms, HoldsFile, HoldsInspection, HoldsOpening, HoldsPersisted, HoldsProgram, HoldsRecording, HoldsStart, HoldsTrace, IsJsonText, IsAny, IsLogText, IsOwn, IsConfigText, IsQueriesText, IsHubScriptText, IsScriptText, IsSnapshotUntil, IsProgramText, IsViewScriptText, NamesAddress, persisted_in, programs_in}
 use Rattle.croquet.proofs.RightSteps.{AreRight, GivesHeld, IsGiving, giving_are_right}
+
+-- looks are looks alone
+looks_give : (names : List (List ℕ)) → IsGiving (look_steps names ++ [])
+looks_give [] = tt
+looks_give (name ∷ names) = looks_give names
 
 -- what is put and printed is put and printed alone
 pub giving : (puts : List Put) (text : List ℕ) → IsGiving (steps_of puts text)
 giving [] text = tt
 giving (put ∷ puts) text = giving puts text
 
--- all is done by then, or the run goes on as a reflector's or as a drill
+-- all is done by then, or the run goes on as a reflector's, as a host's or as a drill
 abbrev pub ClosesWell : Closing → Type 0
 ClosesWell Fine = Unit {0}
 ClosesWell (ByReflecting reflection) = Unit {0}
+ClosesWell (ByHosting hosting) = Unit {0}
 ClosesWell (ByDrill request) = Unit {0}
 ClosesWell closing = ⊥
 
@@ -101,6 +114,14 @@ module _ (held : List ℕ → Content) where
 
   ready_right : (reflection : PlainReflection) → ComesRight held ClosesWell (OfReady reflection)
   ready_right reflection = looked_right reflection.log (ByReflecting reflection) tt
+
+  host_ready_right : (hosting : PlainHosting) → ComesRight held ClosesWell (OfHostReady hosting)
+  host_ready_right hosting = record {
+    verdict = behind (look_steps hosting.logs) (at_once (ByHosting hosting));
+    comes = (at_once (ByHosting hosting), refl, inr refl);
+    reads = giving_are_right held (look_steps hosting.logs ++ []) (looks_give hosting.logs);
+    closing = tt;
+  }
 
   stamp_right : (log : Option (List ℕ)) (requests : List Request) (opening : PlainSession) → ComesRight held ClosesWell (Only (stamp_verdict opening log requests))
   stamp_right log requests opening =
@@ -251,6 +272,30 @@ module _ {F : Type 0} (files : FilesTell F) (old : F) where
       (persisted_right ClosesWell request.persisted persisted next
       (unkept_right request id none (opening_right ClosesWell (IsOwn id) request.from (OfReflected request id) opening refl (reflected_right request id)))))
 
+  host_ids_right : (request : HostRequest) (ids : List SessionId) → are_apart ids ≡ true → NamesAddress request.address → ComesRight (files.held old) ClosesWell (OfHostIds request ids)
+  host_ids_right request ids apart address =
+      let ready : Coming = OfHostReady (hosting_of request ids) in
+      let addressed : Coming = OfRight input.Address (is_address (encode_utf8_all request.address)) ready in
+      right_right (files.held old) ClosesWell input.Config (are_apart ids) addressed apart
+      (right_right (files.held old) ClosesWell input.Address (is_address (encode_utf8_all request.address)) ready address (host_ready_right (files.held old) (hosting_of request ids)))
+
+  host_programs_right
+      : (request : HostRequest) (lines : List SessionLine) (read : List ReadProgram) (names : List (List ℕ)) (holds : HoldPrograms files old names) → are_apart (host_ids (read ++ programs_in files old names holds) lines) ≡ true
+      → NamesAddress request.address → ComesRight (files.held old) ClosesWell (OfHostPrograms request lines read names)
+  host_programs_right request lines read [] holds apart address =
+      host_ids_right request (host_ids read lines) (subst (λ (all : List ReadProgram). are_apart (host_ids all lines) ≡ true) (append-nil read) apart) address
+  host_programs_right request lines read (name ∷ names) holds apart address =
+      let one : ReadProgram = record { name = name; text = holds.0.bytes } in
+      read_program ClosesWell name holds.0 (λ bytes tree. OfHostPrograms request lines (read ++ record { name = name; text = bytes } ∷ []) names)
+      (host_programs_right request lines (read ++ one ∷ []) names holds.1
+      (subst (λ (all : List ReadProgram). are_apart (host_ids all lines) ≡ true) (sym (append_assoc read (one ∷ []) (programs_in files old names holds.1))) apart) address)
+
+  config_right
+      : (request : HostRequest) (config : Option (List SessionLine)) (lines : List SessionLine) → config ≡ Some lines → (holds : HoldPrograms files old (programs_of lines))
+      → are_apart (host_ids (programs_in files old (programs_of lines) holds) lines) ≡ true → NamesAddress request.address → ComesRight (files.held old) ClosesWell (OfConfig request config)
+  config_right request config lines is holds apart address =
+      subst (λ (read : Option (List SessionLine)). ComesRight (files.held old) ClosesWell (OfConfig request read)) (sym is) (host_programs_right request lines [] (programs_of lines) holds apart address)
+
   view_script_right : (request : JoinRequest) (text : List ℕ) (tree : ProgramTree) (script : Option (List PlainLine)) (lines : List PlainLine) → script ≡ Some lines → HoldsPersisted files old request.persisted
       → ComesRight (files.held old) ClosesByVisit (OfViewScript request text tree script)
   view_script_right request text tree script lines is persisted =
@@ -287,6 +332,10 @@ module _ {F : Type 0} (files : FilesTell F) (old : F) where
       read_right ClosesWell input.Script (ask_file script most_script) (λ bytes. OfHubScript logs (hub_script_of bytes)) IsHubScriptText right
       (hub_script_right logs (hub_script_of right.bytes) right.right.0 right.right.1)
   words_right (Some (Reflect request)) right = reflect_right request right.0 right.1 right.2 right.3 right.4
+  words_right (Some (Host request)) right =
+      let host = right.0 in
+      read_right ClosesWell input.Config (ask_file request.config most_config) (λ bytes. OfConfig request (config_of bytes)) IsConfigText host.config
+      (config_right request (config_of host.config.bytes) host.config.right.0 host.config.right.1 host.programs host.apart right.1)
   words_right (Some (Drill request)) right = closed_right (files.held old) ClosesWell (ByDrill request) (OfWords (Some (Drill request))) tt refl
   words_right (Some (Live request)) never = absurd never
   words_right (Some (Join request)) right = join_right request right.0 right.1 right.2 right.3

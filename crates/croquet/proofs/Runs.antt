@@ -2,7 +2,7 @@
 use Rattle.std.proofs.Common.{inl, inr, ℕ, List, [], ◌∷◌, Option, Some, None, refl, sym, ap, codes}
 use Rattle.std.proofs.lemmas.List.{append-nil}
 use Rattle.run_steps.specs.Steps.{Step, Loads}
-use Rattle.run_steps.specs.Outside.{Acts, Came, Well, Failed, WantedMemory, FilesTell, OutputTells, ReadsFile, desk, desk_tells}
+use Rattle.run_steps.specs.Outside.{Acts, Came, Well, Failed, WantedMemory, FilesTell, OutputTells, ReadsFile, files_side, files_side_tells}
 use Rattle.command_outcome.specs.declared.outcome.CommandRefusal.TheVariants as refusal
 use Rattle.commands.specs.declared.work.Waiting.{Waiting}
 use Rattle.commands.specs.declared.work.Next.{Next}
@@ -18,11 +18,11 @@ use Rattle.croquet.specs.Run.{Concludes, Course, Does, Ending, refusal_ending, O
 
 -- a run over files and an output alone
 abbrev pub RanSo : {F W : Type 0} → FilesTell F → OutputTells W → Coming → F → W → F → W → Status → Type 0
-RanSo files out coming f w f' w' result = RanBySteps (desk_tells files out) coming (desk f w) (desk f' w') result
+RanSo files out coming f w f' w' result = RanBySteps (files_side_tells files out) coming (files_side f w) (files_side f' w') result
 
 -- and a command that has come so far over them
 abbrev pub TurnsSo : {F W : Type 0} → FilesTell F → OutputTells W → Turn → Coming → F → W → F → W → Type 0
-TurnsSo files out came coming f w f' w' = Turns (desk_tells files out) came coming (desk f w) (desk f' w')
+TurnsSo files out came coming f w f' w' = Turns (files_side_tells files out) came coming (files_side f w) (files_side f' w')
 
 -- what comes behind a step that leads to it
 pub later : (step : Step) (coming other : Coming) (steps : List Step) (ending : Ending) → ((rest : Verdict) → coming rest → other (before step rest)) → Course coming steps ending → Course other (step ∷ steps) ending
@@ -39,11 +39,11 @@ reaches_on
     : {F W : Type 0} (files : FilesTell F) (out : OutputTells W) (wait : Waiting) (given : Option (List ℕ)) (next : Next) (closing : Closing) (f mid f' : F) (w w' : W)
     → ReadsFile files Well (ask_of wait) given f mid
     → ((rest : Verdict) → ComesNext next rest → Remains wait (before (Loads (ask_of wait) given) rest))
-    → Reaches (desk_tells files out) (ComesNext next) closing (desk mid w) (desk f' w') → Reaches (desk_tells files out) (Remains wait) closing (desk f w) (desk f' w')
+    → Reaches (files_side_tells files out) (ComesNext next) closing (files_side mid w) (files_side f' w') → Reaches (files_side_tells files out) (Remains wait) closing (files_side f w) (files_side f' w')
 reaches_on files out wait given next closing f mid f' w w' read leads reached = record {
   steps = Loads (ask_of wait) given ∷ reached.steps;
   comes = leads _ reached.comes;
-  acts = inl (desk mid w, (read, refl), reached.acts);
+  acts = inl (files_side mid w, (read, refl), reached.acts);
 }
 
 -- a file was read, and handed over
@@ -59,7 +59,7 @@ turns_on files out wait given next (turn.Over result) f mid f' w w' read leads r
   does = record {
     cut = ran.does.cut;
     done = ran.does.done;
-    acts = inl (desk mid w, (read, refl), ran.does.acts);
+    acts = inl (files_side mid w, (read, refl), ran.does.acts);
     left = ran.does.left;
     goes_back = ran.does.goes_back;
     told = ran.does.told;
@@ -69,6 +69,7 @@ turns_on files out wait given next (turn.Visits request) f mid f' w w' read lead
 turns_on files out wait given next (turn.Lives start) f mid f' w w' read leads reached = reaches_on files out wait given next _ f mid f' w w' read leads reached
 turns_on files out wait given next (turn.Reflects reflection) f mid f' w w' read leads reached = reaches_on files out wait given next _ f mid f' w w' read leads reached
 turns_on files out wait given next (turn.Keeps keeping) f mid f' w w' read leads reached = reaches_on files out wait given next _ f mid f' w w' read leads reached
+turns_on files out wait given next (turn.Hosts hosting) f mid f' w w' read leads reached = reaches_on files out wait given next _ f mid f' w w' read leads reached
 turns_on files out wait given next (turn.Drills request) f mid f' w w' read leads reached = reaches_on files out wait given next _ f mid f' w w' read leads reached
 
 -- where a file is not read, what comes of one above its limit stands for what would have come
@@ -84,7 +85,7 @@ unread wait = record {
 -- the run was cut at a read
 cut_at_read
     : {F W : Type 0} (files : FilesTell F) (out : OutputTells W) (wait : Waiting) (f f' : F) (w w' : W) (result : Status) (came : Came)
-    → Acts (desk_tells files out) (Loads (ask_of wait) None ∷ []) (Some (record { step = Loads (ask_of wait) None; came = came })) (desk f w) (desk f' w)
+    → Acts (files_side_tells files out) (Loads (ask_of wait) None ∷ []) (Some (record { step = Loads (ask_of wait) None; came = came })) (files_side f w) (files_side f' w)
     → TellsCut out came (Loads (ask_of wait) None) w w' result → RanSo files out (Remains wait) f w f' w' result
 cut_at_read files out wait f f' w w' result came acts told = record {
   steps = Loads (ask_of wait) None ∷ [];
@@ -92,9 +93,9 @@ cut_at_read files out wait f f' w w' result came acts told = record {
   course = unread wait;
   does = record {
     cut = Some (record { step = Loads (ask_of wait) None; came = came });
-    done = desk f' w;
+    done = files_side f' w;
     acts = acts;
-    left = desk f' w;
+    left = files_side f' w;
     goes_back = refl;
     told = (told, refl);
   };
@@ -113,12 +114,12 @@ ran_unread_memory files out wait f f' w w' result read told = cut_at_read files 
 
 -- an end was told, before any step
 told_at_once : {F W : Type 0} (files : FilesTell F) (out : OutputTells W) (ending : Ending) (f : F) (w w' : W) (result : Status)
-    → TellsEnding out ending w w' result → Does (desk_tells files out) [] ending (desk f w) (desk f w') result
+    → TellsEnding out ending w w' result → Does (files_side_tells files out) [] ending (files_side f w) (files_side f w') result
 told_at_once files out ending f w w' result told = record {
   cut = None;
-  done = desk f w;
+  done = files_side f w;
   acts = refl;
-  left = desk f w;
+  left = files_side f w;
   goes_back = refl;
   told = (told, refl);
 }
@@ -137,7 +138,7 @@ ran_closed files out closing ending f w w' result concludes told = record {
 -- steps were done
 pub ran_done
     : {F W : Type 0} (files : FilesTell F) (out : OutputTells W) (steps : List Step) (f f' : F) (w w' : W) (result : Status)
-    → Does (desk_tells files out) steps (Silent status.Ok) (desk f w) (desk f' w') result → RanSo files out (Only (fine steps)) f w f' w' result
+    → Does (files_side_tells files out) steps (Silent status.Ok) (files_side f w) (files_side f' w') result → RanSo files out (Only (fine steps)) f w f' w' result
 ran_done files out steps f f' w w' result does = record {
   steps = steps;
   ending = Silent status.Ok;
@@ -183,4 +184,5 @@ turns_freely files out coming other (turn.Visits request) f f' w w' leads reache
 turns_freely files out coming other (turn.Lives start) f f' w w' leads reached = record { steps = reached.steps; comes = inr (leads _ reached.comes); acts = reached.acts }
 turns_freely files out coming other (turn.Reflects reflection) f f' w w' leads reached = record { steps = reached.steps; comes = inr (leads _ reached.comes); acts = reached.acts }
 turns_freely files out coming other (turn.Keeps keeping) f f' w w' leads reached = record { steps = reached.steps; comes = inr (leads _ reached.comes); acts = reached.acts }
+turns_freely files out coming other (turn.Hosts hosting) f f' w w' leads reached = record { steps = reached.steps; comes = inr (leads _ reached.comes); acts = reached.acts }
 turns_freely files out coming other (turn.Drills request) f f' w w' leads reached = record { steps = reached.steps; comes = inr (leads _ reached.comes); acts = reached.acts }

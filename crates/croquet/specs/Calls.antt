@@ -30,8 +30,8 @@ use Rattle.command_outcome.specs.declared.outcome.Input.TheVariants as input
 use Rattle.command_outcome.specs.declared.outcome.CommandRefusal.TheVariants as refusal
 use Rattle.command_words.specs.declared.words.DrillRequest.{DrillRequest}
 use Rattle.command_words.specs.Bounds.{AreConnections, IsBoundedDrill}
-use Rattle.commands.specs.Verdict.{ByDrill, ByKeeping, ByLive, ByReflecting, ByVisit, ByWant, Coming, Free, Only, PlainLive, PlainVisit, at_once, drilled_verdict}
-use Rattle.commands.specs.Work.{IsBoundedKeeping, plain_keeping, plain_live, plain_reflection, visit_of}
+use Rattle.commands.specs.Verdict.{ByDrill, ByHosting, ByKeeping, ByLive, ByReflecting, ByVisit, ByWant, Coming, Free, Only, PlainLive, PlainVisit, at_once, drilled_verdict}
+use Rattle.commands.specs.Work.{IsBoundedHosting, IsBoundedKeeping, plain_hosting, plain_keeping, plain_live, plain_reflection, visit_of}
 use Rattle.croquet.specs.declared.status.Status.{Status}
 use Rattle.croquet.specs.declared.status.Status.TheVariants as status
 use Rattle.croquet.specs.declared.top.Turn.{Turn}
@@ -51,7 +51,8 @@ TellsNoPlace files out name f w f' w' result =
     ⊎ (LooksAt files WantedMemory name f f' × TellsMemory out w w' result)
 
 -- the run has looked at the name of a log, if there is one; or it ends
-abbrev pub LooksOrEnds : {F W : Type 0} → FilesTell F → OutputTells W → Option (List ℕ) → Result ⊤ Status → F → W → F → W → Type 0
+abbrev pub LooksOrEnds : {F W : Type 0} → FilesTell F → OutputTells W → Option (List ℕ) → Result ⊤ Status → F → W → F
+    → W → Type 0
 LooksOrEnds files out None (Ok looked) f w f' w' = (f' ≡ f) × (w' ≡ w)
 LooksOrEnds files out None (Err result) f w f' w' = ⊥
 LooksOrEnds files out (Some name) (Ok looked) f w f' w' = LooksAt files Well name f f' × (w' ≡ w)
@@ -69,7 +70,8 @@ TellsLiveEnd out (live_end.View end) old new result = TellsViewEnd out end old n
 TellsLiveEnd out live_end.ReadFault old new result = TellsEnding out on_read_fault old new result
 
 -- steps are all done; or they are cut, and this is told, whatever was to come behind them
-abbrev pub Completes : {F W N L : Type 0} → OutsideTells F W N L → List Step → Result ⊤ Status → Outside F W N L → Outside F W N L → Type 0
+abbrev pub Completes : {F W N L : Type 0} → OutsideTells F W N L → List Step → Result ⊤ Status → Outside F W N L
+    → Outside F W N L → Type 0
 Completes tells steps (Ok done) old new = Acts tells steps None old new
 Completes tells steps (Err result) old new = (ending : Ending) → Does tells steps ending old new result
 
@@ -82,7 +84,7 @@ abbrev pub stop_ending : NetFault → Ending
 stop_ending net_fault.Failed = on_net_fault
 stop_ending net_fault.WantOfMemory = OutOfMemory
 
--- how the run of a reflector ends after all its steps
+-- how the run of a reflector or of a host ends after all its steps
 abbrev pub reflected_ending : Bool → Option NetFault → Ending
 reflected_ending true stopped = on_write_fault
 reflected_ending false None = all_well
@@ -123,16 +125,20 @@ snapshot_of r = world_spelling r.plain.world
 -- what comes of a drill's report
 abbrev pub OfReport : DrillRequest → Result DrillReport WantOfMemory → Coming
 OfReport request (Ok report) =
-    Free (Only (drilled_verdict request report.session.plain (map snapshot_of report.replicas) report.total report.agree))
+    Free (Only (drilled_verdict request report.session.plain
+    (map snapshot_of report.replicas) report.total report.agree))
 OfReport request (Err wanting) = Only (at_once ByWant)
 
--- a command is over, or its run goes on as a view's, a live view's, a reflector's, that of one whose journal is to be opened, or a drill
-abbrev pub Turns : {F W N L : Type 0} → OutsideTells F W N L → Turn → Coming → Outside F W N L → Outside F W N L → Type 0
+-- a command is over, or its run goes on as a view's, a live view's, a reflector's, that of one whose journal is to be opened, a host's, or a drill
+abbrev pub Turns : {F W N L : Type 0} → OutsideTells F W N L → Turn → Coming → Outside F W N L → Outside F W N L
+    → Type 0
 Turns tells (turn.Over result) coming old new = RanBySteps tells coming old new result
 Turns tells (turn.Visits request) coming old new = Reaches tells coming (ByVisit (visit_of request)) old new
 Turns tells (turn.Lives start) coming old new = Reaches tells coming (ByLive (plain_live start)) old new
-Turns tells (turn.Reflects reflection) coming old new = Reaches tells coming (ByReflecting (plain_reflection reflection)) old new
+Turns tells (turn.Reflects reflection) coming old new =
+    Reaches tells coming (ByReflecting (plain_reflection reflection)) old new
 Turns tells (turn.Keeps keeping) coming old new = Reaches tells coming (ByKeeping (plain_keeping keeping)) old new
+Turns tells (turn.Hosts hosting) coming old new = Reaches tells coming (ByHosting (plain_hosting hosting)) old new
 Turns tells (turn.Drills request) coming old new = Reaches tells coming (ByDrill request) old new
 
 -- a command is over
@@ -140,23 +146,28 @@ abbrev pub IsOver : Turn → Type 0
 IsOver (turn.Over status) = ⊤
 IsOver other = ⊥
 
--- a reflector accepts from 1 to 64 links, and what its journal is founded with is a stored session, and a drill is of the size that its words may ask for
+-- a reflector or a host accepts from 1 to 64 links, what a journal is founded with is a stored session, a host has sessions and not too many, and a
+-- drill is of the size that its words may ask for
 abbrev pub IsBoundedTurn : Turn → Type 0
 IsBoundedTurn (turn.Reflects reflection) = AreConnections reflection.connections
 IsBoundedTurn (turn.Keeps keeping) = IsBoundedKeeping keeping
+IsBoundedTurn (turn.Hosts hosting) = IsBoundedHosting hosting
 IsBoundedTurn (turn.Drills request) = IsBoundedDrill request
 IsBoundedTurn other = ⊤
 
 -- a view's run is done, and its end told
-pub record VisitRan {F W N L : Type 0} (tells : OutsideTells F W N L) (visit : PlainVisit) (old new : Outside F W N L) (result : Status) : Type 0 where
+pub record VisitRan {F W N L : Type 0} (tells : OutsideTells F W N L) (visit : PlainVisit) (old new : Outside F W N L)
+    (result : Status) : Type 0 where
   pub steps : List Step
   pub ending : Ending
   pub visits : Visits visit steps ending
   pub does : Does tells steps ending old new result
 
 -- a live view's run is done, and its end told
-pub record LiveViewRan {K W N L : Type 0} (tells : LiveTells K W N L) (live : PlainLive) (k k' : K) (w w' : W) (n n' : N) (result : Status) : Type 0 where
+pub record LiveViewRan {K W N L : Type 0} (tells : LiveTells K W N L) (live : PlainLive) (k k' : K) (w w' : W)
+    (n n' : N) (result : Status) : Type 0 where
   pub end : LiveEnd
   pub said : W
-  pub ran : LiveRan tells live.address (first_state live.founding live.id live.view live.address) end (live_outside k w n None) (live_outside k' said n' None)
+  pub ran : LiveRan tells live.address (first_state live.founding live.id live.view live.address) end
+      (live_outside k w n None) (live_outside k' said n' None)
   pub told : TellsEnding tells.out (live_ending end) said w' result

@@ -1,5 +1,5 @@
 -- A command whose inputs are right, and no call of which has failed, is done, or runs out of memory.
-use Rattle.std.specs.Prelude.{◌≡◌, ◌≢◌, ◌⊎◌, ℕ, ⊤, ◌/◌, ◌≤◌, true, List, length, encode_utf8_all, Option, Some, None}
+use Rattle.std.specs.Prelude.{◌≡◌, ◌≢◌, ◌⊎◌, ℕ, ⊤, ◌/◌, ◌≤◌, true, List, [], ◌∷◌, length, encode_utf8_all, Option, Some, None}
 use Rattle.tea_base.specs.Limits.{most_snapshot}
 use Rattle.tea_base.specs.declared.entry.Entry.{Entry}
 use Rattle.reflector_core.specs.declared.request.Request.{Request}
@@ -21,16 +21,21 @@ use Rattle.command_words.specs.Address.{is_address}
 use Rattle.command_words.specs.declared.words.ReplayRequest.{ReplayRequest}
 use Rattle.command_words.specs.declared.words.InspectRequest.{InspectRequest}
 use Rattle.command_words.specs.declared.words.TraceRequest.{TraceRequest}
+use Rattle.command_words.specs.declared.words.HostRequest.{HostRequest}
 use Rattle.command_words.specs.declared.words.Command.{Command}
-use Rattle.command_words.specs.declared.words.Command.TheVariants.{Stamp, Check, Replay, Inspect, Trace, Votes, Hub, Join, Live, Reflect, Drill}
+use Rattle.command_words.specs.declared.words.Command.TheVariants.{Stamp, Check, Replay, Inspect, Trace, Votes, Hub, Join, Live, Reflect, Host, Drill}
 use Rattle.command_hub.specs.declared.script.HubLine.{HubLine}
 use Rattle.command_hub.specs.HubScript.{hub_script_of}
 use Rattle.command_stamp.specs.Script.{script_of}
+use Rattle.host_config.specs.Config.{config_of}
+use Rattle.host_config.specs.Programs.{programs_of}
+use Rattle.host_config.specs.declared.reading.SessionLine.{SessionLine}
+use Rattle.commands.specs.declared.hosting.ReadProgram.{ReadProgram}
 use Rattle.time_line.specs.Keyframes.{most_frames}
 use Rattle.command_inspect.specs.declared.query.Query.{Query}
 use Rattle.command_inspect.specs.Queries.{queries_of}
 use Rattle.command_outcome.specs.ProgramEnd.{IsFaultless}
-use Rattle.commands.specs.Verdict.{ByVisit, Closing, Comes, IsLog, PlainSource, PlainVisit, names_no_other, most_log, most_queries, most_script, session_id_of}
+use Rattle.commands.specs.Verdict.{ByVisit, Closing, Comes, IsLog, PlainSource, PlainVisit, are_apart, host_ids, names_no_other, most_config, most_log, most_queries, most_script, session_id_of}
 use Rattle.croquet.specs.Run.{RanBySteps}
 use Rattle.croquet.specs.declared.status.Status.{Status}
 use Rattle.croquet.specs.declared.status.Status.TheVariants as status
@@ -38,7 +43,8 @@ use Rattle.croquet.specs.declared.status.Status.TheVariants as status
 -- ---- the inputs of a command, which stand in its files
 
 -- under this name the files hold bytes that are such an input, at most so many
-pub record HoldsFile {F : Type 0} (files : FilesTell F) (old : F) (name : List ℕ) (most : ℕ) (IsInput : List ℕ → Type 0) : Type 0 where
+pub record HoldsFile {F : Type 0} (files : FilesTell F) (old : F) (name : List ℕ) (most : ℕ)
+    (IsInput : List ℕ → Type 0) : Type 0 where
   pub bytes : List ℕ
   pub present : files.held old name ≡ Present bytes
   pub within : length bytes ≤ most
@@ -94,7 +100,8 @@ HoldsPersisted files old None = ⊤
 HoldsPersisted files old (Some name) = HoldsFile files old name most_json IsJsonText
 
 -- the persisted value: nil where none is named
-abbrev pub persisted_in : {F : Type 0} (files : FilesTell F) (old : F) (name : Option (List ℕ)) → HoldsPersisted files old name → PlainValue
+abbrev pub persisted_in : {F : Type 0} (files : FilesTell F) (old : F) (name : Option (List ℕ))
+    → HoldsPersisted files old name → PlainValue
 persisted_in files old None holds = nil
 persisted_in files old (Some name) holds = holds.right.0
 
@@ -107,14 +114,20 @@ HoldsOpening files old (Some name) IsSuch = HoldsFile files old name most_log (I
 pub record HoldsRecording {F : Type 0} (files : FilesTell F) (old : F) (request : ReplayRequest) : Type 0 where
   pub program : HoldsProgram files old request.program
   pub persisted : HoldsPersisted files old request.persisted
-  pub log : HoldsFile files old request.log most_log (IsLogText (IsOwn (session_id_of request.name program.bytes (persisted_in files old request.persisted persisted))))
-  pub start : HoldsStart files old request.from (IsSnapshotUntil request.time (field_counts program.right.0) (session_id_of request.name program.bytes (persisted_in files old request.persisted persisted)))
+  pub log : HoldsFile files old request.log most_log
+      (IsLogText (IsOwn (session_id_of request.name program.bytes
+      (persisted_in files old request.persisted persisted))))
+  pub start : HoldsStart files old request.from
+      (IsSnapshotUntil request.time (field_counts program.right.0)
+      (session_id_of request.name program.bytes (persisted_in files old request.persisted persisted)))
 
 -- the files of an inspection, which keeps not too many worlds
 pub record HoldsInspection {F : Type 0} (files : FilesTell F) (old : F) (request : InspectRequest) : Type 0 where
   pub program : HoldsProgram files old request.program
   pub persisted : HoldsPersisted files old request.persisted
-  pub log : HoldsFile files old request.log most_log (IsLogText (IsOwn (session_id_of request.name program.bytes (persisted_in files old request.persisted persisted))))
+  pub log : HoldsFile files old request.log most_log
+      (IsLogText (IsOwn (session_id_of request.name program.bytes
+      (persisted_in files old request.persisted persisted))))
   pub few : length log.right.0.stored.log / request.every ≤ most_frames
   pub queries : HoldsFile files old request.queries most_queries IsQueriesText
 
@@ -122,7 +135,31 @@ pub record HoldsInspection {F : Type 0} (files : FilesTell F) (old : F) (request
 pub record HoldsTrace {F : Type 0} (files : FilesTell F) (old : F) (request : TraceRequest) : Type 0 where
   pub program : HoldsProgram files old request.program
   pub persisted : HoldsPersisted files old request.persisted
-  pub log : HoldsFile files old request.log most_log (IsLogText (IsOwn (session_id_of request.name program.bytes (persisted_in files old request.persisted persisted))))
+  pub log : HoldsFile files old request.log most_log
+      (IsLogText (IsOwn (session_id_of request.name program.bytes
+      (persisted_in files old request.persisted persisted))))
+
+-- the configuration of a host
+abbrev pub IsConfigText : List ℕ → Type 0
+IsConfigText bytes = (lines : List SessionLine) × (config_of bytes ≡ Some lines)
+
+-- each of these names is that of a program
+abbrev pub HoldPrograms : {F : Type 0} → FilesTell F → F → List (List ℕ) → Type 0
+HoldPrograms files old [] = ⊤
+HoldPrograms files old (name ∷ names) = HoldsProgram files old name × HoldPrograms files old names
+
+-- these programs, each with its name
+abbrev pub programs_in : {F : Type 0} (files : FilesTell F) (old : F) (names : List (List ℕ))
+    → HoldPrograms files old names → List ReadProgram
+programs_in files old [] holds = []
+programs_in files old (name ∷ names) holds =
+    record { name = name; text = holds.0.bytes } ∷ programs_in files old names holds.1
+
+-- the files of a host, no two of whose sessions have one id
+pub record HoldsHost {F : Type 0} (files : FilesTell F) (old : F) (request : HostRequest) : Type 0 where
+  pub config : HoldsFile files old request.config most_config IsConfigText
+  pub programs : HoldPrograms files old (programs_of config.right.0)
+  pub apart : are_apart (host_ids (programs_in files old (programs_of config.right.0) programs) config.right.0) ≡ true
 
 -- a word is the address of a net
 abbrev pub NamesAddress : List ℕ → Type 0
@@ -131,7 +168,8 @@ NamesAddress word = is_address (encode_utf8_all word) ≡ true
 -- the inputs of a command are right: a row for each; words that are refused have none
 abbrev pub HasRightInput : {F : Type 0} → FilesTell F → F → Option Command → Type 0
 HasRightInput files old None = ⊥
-HasRightInput files old (Some (Stamp script from log)) = HoldsFile files old script most_script IsScriptText × HoldsOpening files old from IsAny
+HasRightInput files old (Some (Stamp script from log)) = HoldsFile files old script most_script IsScriptText
+    × HoldsOpening files old from IsAny
 HasRightInput files old (Some (Check program)) = HoldsProgram files old program
 HasRightInput files old (Some (Replay request)) = HoldsRecording files old request
 HasRightInput files old (Some (Inspect request)) = HoldsInspection files old request
@@ -139,13 +177,17 @@ HasRightInput files old (Some (Trace request)) = HoldsTrace files old request
 HasRightInput files old (Some (Votes log)) = HoldsFile files old log most_log (IsLogText IsAny)
 HasRightInput files old (Some (Hub script logs)) = HoldsFile files old script most_script IsHubScriptText
 HasRightInput files old (Some (Join request)) =
-    HoldsProgram files old request.program × NamesAddress request.address × HoldsFile files old request.script most_script IsViewScriptText × HoldsPersisted files old request.persisted
+    HoldsProgram files old request.program × NamesAddress request.address
+    × HoldsFile files old request.script most_script IsViewScriptText × HoldsPersisted files old request.persisted
 -- of a view whose lines come to its run nothing is said
 HasRightInput files old (Some (Live request)) = ⊥
 -- of one that names a journal nothing is said
 HasRightInput files old (Some (Reflect request)) =
-    (request.journal ≡ None) × (program : HoldsProgram files old request.program) × NamesAddress request.address × (persisted : HoldsPersisted files old request.persisted)
-    × HoldsOpening files old request.from (IsOwn (session_id_of request.name program.bytes (persisted_in files old request.persisted persisted)))
+    (request.journal ≡ None) × (program : HoldsProgram files old request.program) × NamesAddress request.address
+    × (persisted : HoldsPersisted files old request.persisted)
+    × HoldsOpening files old request.from
+    (IsOwn (session_id_of request.name program.bytes (persisted_in files old request.persisted persisted)))
+HasRightInput files old (Some (Host request)) = HoldsHost files old request × NamesAddress request.address
 -- a drill reads no file
 HasRightInput files old (Some (Drill request)) = ⊤
 
@@ -157,7 +199,8 @@ HasRightInput files old (Some (Drill request)) = ⊤
 pub record OnlyByLinks (visit : PlainVisit) (steps : List Step) (result : Status) : Type 0 where
   pub ended : GoOn 0 steps → result ≢ status.Ended
   pub refused : RefuseNoOther steps → result ≢ status.Refused
-  pub peer : (log : List Entry) → IsAnsweredVisit visit.founding visit.id visit.view visit.address visit.lines log steps → result ≢ status.Peer
+  pub peer : (log : List Entry) → IsAnsweredVisit visit.founding visit.id visit.view visit.address visit.lines log steps
+      → result ≢ status.Peer
 
 -- so where the run goes on as a view's
 abbrev pub IsCausedBy : Closing → List Step → Status → Type 0
@@ -168,7 +211,8 @@ IsCausedBy closing steps result = ⊤
 
 -- No call of the files, of the output or of the net has failed: their counts of faults have not risen. One that stands at the last value
 -- of its type counts as risen.
-pub record NoneFailed {F W N L : Type 0} (files : FilesTell F) (out : OutputTells W) (net : NetTells N L) (old new : Outside F W N L) : Type 0 where
+pub record NoneFailed {F W N L : Type 0} (files : FilesTell F) (out : OutputTells W) (net : NetTells N L)
+    (old new : Outside F W N L) : Type 0 where
   pub of_files : ¬ Rose (files.faults old.files) (files.faults new.files)
   pub of_output : ¬ Rose (out.faults old.out) (out.faults new.out)
   pub of_net : ¬ Rose (net.faults old.net) (net.faults new.net)
@@ -192,7 +236,10 @@ IsDueOf (Some (Join request)) result = IsDone result ⊎ IsByPeer result
 IsDueOf command result = IsDone result
 
 -- A command whose inputs are right comes to what is due, where no call has failed. A join comes to an end of its links only where they caused it.
-pub record IsComplete {F W N L : Type 0} (files : FilesTell F) (out : OutputTells W) (net : NetTells N L) (links : LinksTell L) (command : Option Command) (old new : Outside F W N L) (result : Status)
+pub record IsComplete {F W N L : Type 0} (files : FilesTell F) (out : OutputTells W) (net : NetTells N L)
+    (links : LinksTell L) (command : Option Command) (old new : Outside F W N L) (result : Status)
     : Type 0 where
-  pub due : HasRightInput files old.files command → NoneFailed files out net old new → NoLinkFailed net command old.net new.net → IsDueOf command result
-  pub caused : (ran : RanBySteps (outside_tells files out net links) (Comes command) old new result) → IsCausedBy ran.course.verdict.closing ran.course.more result
+  pub due : HasRightInput files old.files command → NoneFailed files out net old new
+      → NoLinkFailed net command old.net new.net → IsDueOf command result
+  pub caused : (ran : RanBySteps (outside_tells files out net links) (Comes command) old new result)
+      → IsCausedBy ran.course.verdict.closing ran.course.more result

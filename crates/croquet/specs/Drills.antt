@@ -17,12 +17,15 @@ drill_size request = record { seed = request.seed; views = request.views; events
 
 -- what comes of a drill whose views have all come to this world: the session is put as it is stored, and the snapshot of the world for each view
 abbrev pub agreed_verdict : DrillRequest → PlainSession → WorldRecord → Verdict
-agreed_verdict request session w = drilled_verdict request session (replicate request.views (world_spelling w)) (root_total w) request.views
+agreed_verdict request session w =
+    drilled_verdict request session (replicate request.views (world_spelling w)) (root_total w) request.views
 
 -- the views of a drill have all come to the replay of its log to the horizon
-pub record IsDrilled (gives : ℕ → Type 0) (request : DrillRequest) (report : DrillReport) (verdict : Verdict) : Type 0 where
+pub record IsDrilled (gives : ℕ → Type 0) (request : DrillRequest) (report : DrillReport)
+    (verdict : Verdict) : Type 0 where
   pub has : HasDrilled gives (drill_size request) report
-  pub is : verdict ≡ agreed_verdict request report.session.plain (replay has.founding drill_id report.session.plain.log report.session.plain.horizon).world
+  pub is : verdict ≡ agreed_verdict request report.session.plain
+      (replay has.founding drill_id report.session.plain.log report.session.plain.horizon).world
 
 -- what comes of the answer
 abbrev pub OfDrilled : (ℕ → Type 0) → DrillRequest → Result DrillReport WantOfMemory → Coming

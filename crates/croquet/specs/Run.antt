@@ -30,6 +30,8 @@ use Rattle.journal_store.specs.Stores.{StoresTell, TakesStore}
 use Rattle.session_lock.specs.declared.knowledge.Item.{Item}
 use Rattle.session_lock.specs.History.{play_from}
 use Rattle.reflect_server.specs.Opening.{gives_later}
+use Rattle.host_server.specs.Hosts.{Hosts}
+use Rattle.host_server.specs.declared.hosting.Hosted.{Hosted}
 use Rattle.reflect_server.specs.declared.reflection.Reflected.{Reflected}
 use Rattle.reflect_server.specs.declared.reflection.ServeFault.{ServeFault}
 use Rattle.reflect_server.specs.declared.reflection.ServeFault.TheVariants as serve_fault
@@ -50,7 +52,7 @@ use Rattle.command_outcome.specs.declared.outcome.CommandRefusal.{CommandRefusal
 use Rattle.command_outcome.specs.declared.outcome.CommandRefusal.TheVariants as refusal
 use Rattle.command_words.specs.declared.words.DrillRequest.{DrillRequest}
 use Rattle.commands.specs.Keeping.{OfAbsent, OfBytes, no_journal}
-use Rattle.commands.specs.Verdict.{Closing, Fine, ByRefusal, ByWant, ByReadFault, ByWriteFault, ByNetFault, ByVisit, ByLive, ByReflecting, ByKeeping, ByGoingOn, ByDrill, Verdict, PlainKeeping, PlainLive, PlainReflection, PlainVisit, Coming, OfEnds, Only, at_once}
+use Rattle.commands.specs.Verdict.{Closing, Fine, ByRefusal, ByWant, ByReadFault, ByWriteFault, ByNetFault, ByVisit, ByLive, ByReflecting, ByKeeping, ByGoingOn, ByHosting, ByDrill, Verdict, PlainHosting, PlainKeeping, PlainLive, PlainReflection, PlainVisit, Coming, OfEnds, OfHostEnds, Only, at_once}
 use Rattle.croquet.specs.Drills.{OfDrilled, drill_size}
 use Rattle.croquet.specs.declared.status.Status.{Status}
 use Rattle.croquet.specs.declared.status.Status.TheVariants as status
@@ -89,6 +91,7 @@ name_of input.Time = codes "time"
 name_of input.Address = codes "address"
 name_of input.Every = codes "every"
 name_of input.Queries = codes "queries"
+name_of input.Config = codes "config"
 
 -- its command is refused
 abbrev pub refusal_ending : CommandRefusal → Ending
@@ -150,6 +153,8 @@ Concludes (ByReflecting reflection) steps ending = ⊥
 -- Nor so: what comes next depends on what the stores tell. `RanAsKeeper` says how.
 Concludes (ByKeeping keeping) steps ending = ⊥
 Concludes (ByGoingOn keeping place) steps ending = ⊥
+-- Nor so: a host serves many links at once. `RanAsHost` says how it does.
+Concludes (ByHosting hosting) steps ending = ⊥
 -- Nor so: the views of a drill run in threads. `RanAsDrill` says what comes of them.
 Concludes (ByDrill request) steps ending = ⊥
 
@@ -197,12 +202,14 @@ TellsEnd out (Some cut) ending old new result = TellsCut out cut.came cut.step o
 -- ---- a run
 
 -- this is told, and nothing else moves
-abbrev pub OnlyTells : {F W N L : Type 0} → (W → W → Status → Type 0) → Outside F W N L → Outside F W N L → Status → Type 0
+abbrev pub OnlyTells : {F W N L : Type 0} → (W → W → Status → Type 0) → Outside F W N L → Outside F W N L → Status
+    → Type 0
 OnlyTells Told old new result = Told old.out new.out result × (new ≡ record old { out = new.out })
 
 -- The steps are done, one after the other, up to one that fails or wants memory, if one does: it cuts the run, and no other step is
 -- done. Then the link that is in use goes back, and the end is told.
-pub record Does {F W N L : Type 0} (tells : OutsideTells F W N L) (steps : List Step) (ending : Ending) (old new : Outside F W N L) (result : Status) : Type 0 where
+pub record Does {F W N L : Type 0} (tells : OutsideTells F W N L) (steps : List Step) (ending : Ending)
+    (old new : Outside F W N L) (result : Status) : Type 0 where
   pub cut : Option Cut
   pub done : Outside F W N L
   pub acts : Acts tells steps cut old done
@@ -212,7 +219,8 @@ pub record Does {F W N L : Type 0} (tells : OutsideTells F W N L) (steps : List 
 
 -- There are steps and an end that come of a command, and what was read, put, printed, made, heard and sent is what they give, up to
 -- the place where the run was cut, and then the last line.
-pub record RanBySteps {F W N L : Type 0} (tells : OutsideTells F W N L) (coming : Coming) (old new : Outside F W N L) (result : Status) : Type 0 where
+pub record RanBySteps {F W N L : Type 0} (tells : OutsideTells F W N L) (coming : Coming) (old new : Outside F W N L)
+    (result : Status) : Type 0 where
   pub steps : List Step
   pub ending : Ending
   pub course : Course coming steps ending
@@ -221,17 +229,21 @@ pub record RanBySteps {F W N L : Type 0} (tells : OutsideTells F W N L) (coming 
 -- ---- a reflector's run
 
 -- the steps of a verdict that comes of a command, which is closed so, are all done
-pub record Reaches {F W N L : Type 0} (tells : OutsideTells F W N L) (coming : Coming) (closing : Closing) (old new : Outside F W N L) : Type 0 where
+pub record Reaches {F W N L : Type 0} (tells : OutsideTells F W N L) (coming : Coming) (closing : Closing)
+    (old new : Outside F W N L) : Type 0 where
   pub steps : List Step
   pub comes : coming (record { steps = steps; closing = closing })
   pub acts : Acts tells steps None old new
 
 -- a reflector of this session has done this to the net, by a clock that may give these values, counted from the session's horizon, and answers so; nothing else moves
 abbrev pub ServesNet
-    : (ℕ → Type 0) → {F W N L : Type 0} → OutsideTells F W N L → PlainReflection → Result Reflected ServeFault → Outside F W N L → Outside F W N L
+    : (ℕ → Type 0) → {F W N L : Type 0} → OutsideTells F W N L → PlainReflection → Result Reflected ServeFault
+    → Outside F W N L → Outside F W N L
     → Type 0
 ServesNet gives tells reflection answer old new =
-    OnPart tells.net (λ net. OnPart tells.links (λ links. Reflects (gives_later gives reflection.opening.horizon) (record { 0 = reflection.id }) reflection.opening net links (Listen reflection.address ∷ []) reflection.connections old.net new.net answer))
+    OnPart tells.net (λ net. OnPart tells.links (λ links.
+    Reflects (gives_later gives reflection.opening.horizon) (record { 0 = reflection.id }) reflection.opening net links
+    (Listen reflection.address ∷ []) reflection.connections old.net new.net answer))
     × (new ≡ record old { net = new.net })
 
 -- what comes of a reflector's answer: its session is put as it is stored, if there is a name for it, and then its text is printed, also where the net, or memory, gave no further link
@@ -241,7 +253,8 @@ OfReflected log (Err serve_fault.ListenFault) = Only (at_once ByNetFault)
 OfReflected log (Err serve_fault.WantOfMemory) = Only (at_once ByWant)
 
 -- a command has done its steps, a reflector has served the net, and what comes of its answer is done
-pub record RanAsReflector (gives : ℕ → Type 0) {F W N L : Type 0} (tells : OutsideTells F W N L) (coming : Coming) (old new : Outside F W N L) (result : Status) : Type 0 where
+pub record RanAsReflector (gives : ℕ → Type 0) {F W N L : Type 0} (tells : OutsideTells F W N L) (coming : Coming)
+    (old new : Outside F W N L) (result : Status) : Type 0 where
   pub reflection : PlainReflection
   pub ready : Outside F W N L
   pub reaches : Reaches tells coming (ByReflecting reflection) old ready
@@ -249,6 +262,34 @@ pub record RanAsReflector (gives : ℕ → Type 0) {F W N L : Type 0} (tells : O
   pub served : Outside F W N L
   pub serves : ServesNet gives tells reflection answer ready served
   pub behind : RanBySteps tells (OfReflected reflection.log answer) served new result
+
+-- ---- a host's run
+
+-- a host of these sessions has done this to the net, by a clock that may give these values, and answers so; nothing else moves
+abbrev pub ServesHost
+    : (ℕ → Type 0) → {F W N L : Type 0} → OutsideTells F W N L → PlainHosting → Result Hosted ServeFault
+    → Outside F W N L → Outside F W N L → Type 0
+ServesHost gives tells hosting answer old new =
+    OnPart tells.net (λ net. OnPart tells.links (λ links.
+    Hosts gives hosting.ids net links (Listen hosting.address ∷ []) hosting.connections old.net new.net answer))
+    × (new ≡ record old { net = new.net })
+
+-- what comes of a host's answer: each session is put as it is stored, and then their text is printed, also where the net, or memory, gave no further link
+abbrev pub OfHosted : List (List ℕ) → Result Hosted ServeFault → Coming
+OfHosted logs (Ok hosted) = OfHostEnds logs hosted.ends hosted.sessions hosted.stopped
+OfHosted logs (Err serve_fault.ListenFault) = Only (at_once ByNetFault)
+OfHosted logs (Err serve_fault.WantOfMemory) = Only (at_once ByWant)
+
+-- a command has done its steps, a host has served the net, and what comes of its answer is done
+pub record RanAsHost (gives : ℕ → Type 0) {F W N L : Type 0} (tells : OutsideTells F W N L) (coming : Coming)
+    (old new : Outside F W N L) (result : Status) : Type 0 where
+  pub hosting : PlainHosting
+  pub ready : Outside F W N L
+  pub reaches : Reaches tells coming (ByHosting hosting) old ready
+  pub answer : Result Hosted ServeFault
+  pub served : Outside F W N L
+  pub serves : ServesHost gives tells hosting answer ready served
+  pub behind : RanBySteps tells (OfHosted hosting.logs answer) served new result
 
 -- ---- a reflector that keeps a journal
 
@@ -274,20 +315,24 @@ OfKept log unkept (Err kept_fault.WantOfMemory) = Only (at_once ByWant)
 OfKept log unkept (Err kept_fault.Unkept) = Only (at_once ByWriteFault)
 
 -- a journal is opened and, where it was not there, founded and opened again; all steps that come of that are done
-abbrev pub OpensAs : {F W N L T S : Type 0} → OutsideTells F W N L → StoresTell T S → PlainKeeping → PlainKeeping → Result (Opened S) OpeningFault → Outside F W N L → Outside F W N L → T → T → Type 0
+abbrev pub OpensAs : {F W N L T S : Type 0} → OutsideTells F W N L → StoresTell T S → PlainKeeping → PlainKeeping
+    → Result (Opened S) OpeningFault → Outside F W N L → Outside F W N L → T → T → Type 0
 OpensAs {T = T} tells stores first keeping answer old new s t =
     ((keeping ≡ first) × (new ≡ old) × OpensJournal stores first.id first.journal first.opening answer s t)
     ⊎ ((mid : T) × OpensJournal stores first.id first.journal first.opening (Ok opened.Absent) s mid
-    × Reaches tells (OfAbsent first.opening first) (ByKeeping keeping) old new × OpensJournal stores keeping.id keeping.journal keeping.opening answer mid t)
+    × Reaches tells (OfAbsent first.opening first) (ByKeeping keeping) old new
+    × OpensJournal stores keeping.id keeping.journal keeping.opening answer mid t)
 
 -- the steps of a verdict that comes, which is closed so, are cut: whatever was to come behind them
-pub record EndsBefore {F W N L : Type 0} (tells : OutsideTells F W N L) (coming : Coming) (closing : Closing) (old new : Outside F W N L) (result : Status) : Type 0 where
+pub record EndsBefore {F W N L : Type 0} (tells : OutsideTells F W N L) (coming : Coming) (closing : Closing)
+    (old new : Outside F W N L) (result : Status) : Type 0 where
   pub steps : List Step
   pub comes : coming (record { steps = steps; closing = closing })
   pub does : (ending : Ending) → Does tells steps ending old new result
 
 -- a journal was read, and does not go on
-pub record EndsUncut {F W N L S : Type 0} (tells : OutsideTells F W N L) (faults : S → ℕ) (keeping : PlainKeeping) (store : S) (bytes : List ℕ) (left : S) (old new : Outside F W N L) (result : Status) : Type 0 where
+pub record EndsUncut {F W N L S : Type 0} (tells : OutsideTells F W N L) (faults : S → ℕ) (keeping : PlainKeeping)
+    (store : S) (bytes : List ℕ) (left : S) (old new : Outside F W N L) (result : Status) : Type 0 where
   pub place : Place PlainStored
   pub ready : Outside F W N L
   pub reaches : Reaches tells (OfBytes keeping bytes) (ByGoingOn keeping place) old ready
@@ -297,42 +342,54 @@ pub record EndsUncut {F W N L S : Type 0} (tells : OutsideTells F W N L) (faults
 
 -- The bytes of a store were read, and no session goes on from it: they are no journal of the session; or what is put and printed of them is cut; or
 -- the store was not cut to what was read, or memory ran out. This store is left.
-abbrev pub StopsAtBytes : {F W N L S : Type 0} → OutsideTells F W N L → (S → ℕ) → PlainKeeping → S → List ℕ → S → Outside F W N L → Outside F W N L → Status → Type 0
+abbrev pub StopsAtBytes : {F W N L S : Type 0} → OutsideTells F W N L → (S → ℕ) → PlainKeeping → S → List ℕ → S
+    → Outside F W N L → Outside F W N L → Status → Type 0
 StopsAtBytes tells faults keeping store bytes left old new result =
     (RanBySteps tells (OfBytes keeping bytes) old new result × (left ≡ store))
-    ⊎ (((place : Place PlainStored) × EndsBefore tells (OfBytes keeping bytes) (ByGoingOn keeping place) old new result × (left ≡ store))
+    ⊎ (((place : Place PlainStored) × EndsBefore tells (OfBytes keeping bytes) (ByGoingOn keeping place) old new result
+    × (left ≡ store))
     ⊎ EndsUncut tells faults keeping store bytes left old new result)
 
 -- no session goes on, and the store is given back
-pub record EndsRead {F W N L T S : Type 0} (tells : OutsideTells F W N L) (stores : StoresTell T S) (keeping : PlainKeeping) (store : S) (bytes : List ℕ) (old new : Outside F W N L) (s t : T) (result : Status) : Type 0 where
+pub record EndsRead {F W N L T S : Type 0} (tells : OutsideTells F W N L) (stores : StoresTell T S)
+    (keeping : PlainKeeping) (store : S) (bytes : List ℕ) (old new : Outside F W N L) (s t : T)
+    (result : Status) : Type 0 where
   pub left : S
   pub stops : StopsAtBytes tells stores.store_faults keeping store bytes left old new result
   pub back : TakesStore stores keeping.journal left s t
 
 -- what a keeper holds covers this session, and so does what it has written; and it may keep more
-pub record GoesOnWith {S : Type 0} (told : S → Option (List ℕ)) (safe : S → ℕ) (session : PlainSession) (keeper : JournalKeeper S) : Type 0 where
+pub record GoesOnWith {S : Type 0} (told : S → Option (List ℕ)) (safe : S → ℕ) (session : PlainSession)
+    (keeper : JournalKeeper S) : Type 0 where
   pub covered : IsCovered (IsJournalOf told safe keeper) session.kept session
   pub written : IsCovered (WritesJournalOf told safe keeper) session.kept session
   pub unshut : ¬ IsShut keeper
 
 -- what the journal of a session tells of its history, from this keeper on
-abbrev pub journal_tells : {T S : Type 0} → StoresTell T S → PlainSession → JournalKeeper S → JournalKeeper S → KeeperTells
+abbrev pub journal_tells : {T S : Type 0} → StoresTell T S → PlainSession → JournalKeeper S → JournalKeeper S
+    → KeeperTells
 journal_tells stores session first keeper =
-    keeper_tells (IsJournalOf stores.told stores.safe) IsShut (fault_count stores.store_faults) (fault_count stores.store_faults first) session keeper
+    keeper_tells (IsJournalOf stores.told stores.safe) IsShut (fault_count stores.store_faults)
+    (fault_count stores.store_faults first) session keeper
 
 -- A reflector of this session has done this to the net, and its keeper has kept what it came to.
 abbrev pub ServesKept
-    : (ℕ → Type 0) → {F W N L T S : Type 0} → OutsideTells F W N L → StoresTell T S → PlainKeeping → PlainSession → JournalKeeper S → JournalKeeper S → Result Reflected KeptFault → Outside F W N L → Outside F W N L
+    : (ℕ → Type 0) → {F W N L T S : Type 0} → OutsideTells F W N L → StoresTell T S → PlainKeeping → PlainSession
+    → JournalKeeper S → JournalKeeper S → Result Reflected KeptFault → Outside F W N L → Outside F W N L
     → Type 0
 ServesKept gives tells stores keeping session first keeper answer old new =
-    OnPart tells.net (λ net. OnPart tells.links (λ links. ReflectsKept (gives_later gives session.horizon) (record { 0 = keeping.id }) session (journal_tells stores session first keeper) net links (Listen keeping.address ∷ []) keeping.connections old.net new.net answer))
+    OnPart tells.net (λ net. OnPart tells.links (λ links.
+    ReflectsKept (gives_later gives session.horizon) (record { 0 = keeping.id }) session
+    (journal_tells stores session first keeper) net links
+    (Listen keeping.address ∷ []) keeping.connections old.net new.net answer))
     × (new ≡ record old { net = new.net })
 
 -- Whatever call of its store has failed: where the store tells its bytes, the safe ones are read as a session that has the log of the play of the
 -- history that was kept, and at least its horizon. An end at any moment is a run whose store fails from that moment on.
 abbrev pub StoresKeepPlays : {T S : Type 0} → StoresTell T S → Type 0
 StoresKeepPlays {S = S} stores =
-    (session : PlainSession) (first keeper : JournalKeeper S) (history : List Item) → (journal_tells stores session first keeper).keeps history
+    (session : PlainSession) (first keeper : JournalKeeper S) (history : List Item)
+    → (journal_tells stores session first keeper).keeps history
     → IsSafelyKept stores.told stores.safe keeper (play_from session history)
 
 -- a call was not kept
@@ -340,7 +397,8 @@ abbrev pub is_shut : {S : Type 0} → JournalKeeper S → Bool
 is_shut keeper = keeper.journal.shut || keeper.full
 
 -- A journal was read, and its session goes on: a reflector has served the net, the store is given back, and what comes of the answer is done.
-pub record KeepsOn (gives : ℕ → Type 0) {F W N L T S : Type 0} (tells : OutsideTells F W N L) (stores : StoresTell T S) (keeping : PlainKeeping) (bytes : List ℕ) (old new : Outside F W N L) (s t : T) (result : Status) : Type 0 where
+pub record KeepsOn (gives : ℕ → Type 0) {F W N L T S : Type 0} (tells : OutsideTells F W N L) (stores : StoresTell T S)
+    (keeping : PlainKeeping) (bytes : List ℕ) (old new : Outside F W N L) (s t : T) (result : Status) : Type 0 where
   pub place : Place PlainStored
   pub ready : Outside F W N L
   pub reaches : Reaches tells (OfBytes keeping bytes) (ByGoingOn keeping place) old ready
@@ -354,17 +412,22 @@ pub record KeepsOn (gives : ℕ → Type 0) {F W N L T S : Type 0} (tells : Outs
   pub behind : RanBySteps tells (OfKept keeping.log (is_shut keeper) answer) served new result
 
 -- what comes of a journal that is there
-abbrev pub OfThere : (ℕ → Type 0) → {F W N L T S : Type 0} → OutsideTells F W N L → StoresTell T S → PlainKeeping → S → List ℕ → Outside F W N L → Outside F W N L → T → T → Status → Type 0
+abbrev pub OfThere : (ℕ → Type 0) → {F W N L T S : Type 0} → OutsideTells F W N L → StoresTell T S → PlainKeeping → S
+    → List ℕ → Outside F W N L → Outside F W N L → T → T → Status → Type 0
 OfThere gives tells stores keeping store bytes old new s t result =
-    EndsRead tells stores keeping store bytes old new s t result ⊎ KeepsOn gives tells stores keeping bytes old new s t result
+    EndsRead tells stores keeping store bytes old new s t result
+    ⊎ KeepsOn gives tells stores keeping bytes old new s t result
 
 -- what comes of a journal that was opened, or was not: where it is there, this; else the run ends, and the stores are as they were
-abbrev pub OfAnswer : {F W N L T S : Type 0} → OutsideTells F W N L → PlainKeeping → Result (Opened S) OpeningFault → (S → List ℕ → Type 0) → Outside F W N L → Outside F W N L → T → T → Status → Type 0
+abbrev pub OfAnswer : {F W N L T S : Type 0} → OutsideTells F W N L → PlainKeeping → Result (Opened S) OpeningFault
+    → (S → List ℕ → Type 0) → Outside F W N L → Outside F W N L → T → T → Status → Type 0
 OfAnswer tells keeping (Ok (opened.There store bytes)) there old new s t result = there store bytes
-OfAnswer tells keeping answer there old new s t result = RanBySteps tells (OfOpened keeping answer) old new result × (t ≡ s)
+OfAnswer tells keeping answer there old new s t result = RanBySteps tells (OfOpened keeping answer) old new result
+    × (t ≡ s)
 
 -- A command has done its steps, its journal was opened, and what comes of that is done; the stores come to this.
-pub record RanAsKeeper (gives : ℕ → Type 0) {F W N L T S : Type 0} (tells : OutsideTells F W N L) (stores : StoresTell T S) (coming : Coming) (old new : Outside F W N L) (s t : T) (result : Status) : Type 0 where
+pub record RanAsKeeper (gives : ℕ → Type 0) {F W N L T S : Type 0} (tells : OutsideTells F W N L)
+    (stores : StoresTell T S) (coming : Coming) (old new : Outside F W N L) (s t : T) (result : Status) : Type 0 where
   pub first : PlainKeeping
   pub asked : Outside F W N L
   pub reaches : Reaches tells coming (ByKeeping first) old asked
@@ -373,12 +436,14 @@ pub record RanAsKeeper (gives : ℕ → Type 0) {F W N L T S : Type 0} (tells : 
   pub told : Outside F W N L
   pub held : T
   pub opens : OpensAs tells stores first keeping answer asked told s held
-  pub behind : OfAnswer tells keeping answer (λ store bytes. OfThere gives tells stores keeping store bytes told new held t result) told new held t result
+  pub behind : OfAnswer tells keeping answer (λ store bytes.
+      OfThere gives tells stores keeping store bytes told new held t result) told new held t result
 
 -- ---- a drill
 
 -- a command has done its steps, a drill has run by a clock that may give these values, and what comes of its answer is done
-pub record RanAsDrill (gives : ℕ → Type 0) {F W N L : Type 0} (tells : OutsideTells F W N L) (coming : Coming) (old new : Outside F W N L) (result : Status) : Type 0 where
+pub record RanAsDrill (gives : ℕ → Type 0) {F W N L : Type 0} (tells : OutsideTells F W N L) (coming : Coming)
+    (old new : Outside F W N L) (result : Status) : Type 0 where
   pub request : DrillRequest
   pub ready : Outside F W N L
   pub reaches : Reaches tells coming (ByDrill request) old ready
@@ -391,14 +456,18 @@ pub record RanAsDrill (gives : ℕ → Type 0) {F W N L : Type 0} (tells : Outsi
 -- A live view has asked the feed of its lines and its links in some order, has sent and printed what it makes of what they told, and ends so. Each
 -- link went back, and the files stay as they are.
 abbrev pub TakesPart
-    : {K F W N L : Type 0} → OutsideTells F W N L → FeedTells K → PlainLive → LiveEnd → Outside F W N L → Outside F W N L → K → K → Type 0
+    : {K F W N L : Type 0} → OutsideTells F W N L → FeedTells K → PlainLive → LiveEnd → Outside F W N L
+    → Outside F W N L → K → K → Type 0
 TakesPart tells feed live end old new k k' =
-    OnPart tells.net (λ net. OnPart tells.links (λ links. LiveRan (live_tells feed tells.out net links) live.address (first_state live.founding live.id live.view live.address) end
+    OnPart tells.net (λ net. OnPart tells.links (λ links.
+    LiveRan (live_tells feed tells.out net links) live.address
+    (first_state live.founding live.id live.view live.address) end
     (live_outside k old.out old.net old.link) (live_outside k' new.out new.net new.link)))
     × (new ≡ record old { out = new.out; net = new.net; link = new.link })
 
 -- a command has done its steps, a live view has run, and its end was told
-pub record RanAsLive {K F W N L : Type 0} (tells : OutsideTells F W N L) (feed : FeedTells K) (coming : Coming) (old new : Outside F W N L) (k k' : K) (result : Status) : Type 0 where
+pub record RanAsLive {K F W N L : Type 0} (tells : OutsideTells F W N L) (feed : FeedTells K) (coming : Coming)
+    (old new : Outside F W N L) (k k' : K) (result : Status) : Type 0 where
   pub live : PlainLive
   pub ready : Outside F W N L
   pub reaches : Reaches tells coming (ByLive live) old ready
@@ -409,14 +478,19 @@ pub record RanAsLive {K F W N L : Type 0} (tells : OutsideTells F W N L) (feed :
 
 -- ---- every run
 
--- a command has run without stores and without lines that come to it: by steps, as a reflector, or as a drill
-abbrev pub RanAlone : (ℕ → Type 0) → {F W N L : Type 0} → OutsideTells F W N L → Coming → Outside F W N L → Outside F W N L → Status → Type 0
+-- a command has run without stores and without lines that come to it: by steps, as a reflector, as a host, or as a drill
+abbrev pub RanAlone : (ℕ → Type 0) → {F W N L : Type 0} → OutsideTells F W N L → Coming → Outside F W N L
+    → Outside F W N L → Status → Type 0
 RanAlone gives tells coming old new result =
-    RanBySteps tells coming old new result ⊎ (RanAsReflector gives tells coming old new result ⊎ RanAsDrill gives tells coming old new result)
+    RanBySteps tells coming old new result
+    ⊎ (RanAsReflector gives tells coming old new result
+    ⊎ (RanAsHost gives tells coming old new result ⊎ RanAsDrill gives tells coming old new result))
 
 -- a command has run: so, and the stores and the feed of lines are as they were; or as a reflector that keeps a journal; or as a live view
 abbrev pub Ran
-    : (ℕ → Type 0) → {F W N L T S K : Type 0} → OutsideTells F W N L → StoresTell T S → FeedTells K → Coming → Outside F W N L → Outside F W N L → T → T → K → K → Status → Type 0
+    : (ℕ → Type 0) → {F W N L T S K : Type 0} → OutsideTells F W N L → StoresTell T S → FeedTells K → Coming
+    → Outside F W N L → Outside F W N L → T → T → K → K → Status → Type 0
 Ran gives tells stores feed coming old new s t k k' result =
     (RanAlone gives tells coming old new result × (t ≡ s) × (k' ≡ k))
-    ⊎ ((RanAsKeeper gives tells stores coming old new s t result × (k' ≡ k)) ⊎ (RanAsLive tells feed coming old new k k' result × (t ≡ s)))
+    ⊎ ((RanAsKeeper gives tells stores coming old new s t result × (k' ≡ k))
+    ⊎ (RanAsLive tells feed coming old new k k' result × (t ≡ s)))

@@ -1,6 +1,7 @@
 //! What a drill tells.
-ghost use Rattle.std.specs.Prelude.{◌≡◌, IfOk, map};
-ghost use Rattle.run_steps.specs.Outside.{desk, desk_tells, files_tell, output_tells};
+ghost use Rattle.std.specs.Prelude.{◌≡◌, All, IfOk, map};
+ghost use Rattle.drill.specs.Reports.{IsWhole};
+ghost use Rattle.run_steps.specs.Outside.{files_side, files_side_tells, files_tell, output_tells};
 ghost use Rattle.command_outcome.specs.Outcome.{steps_of};
 ghost use Rattle.command_drill.specs.DrilledSteps.{drilled_steps};
 ghost use Rattle.croquet.specs.Calls.{OfReport, snapshot_of};
@@ -16,17 +17,21 @@ use drill::{DrillReport, Replicas};
 use std::alloc::Global;
 use tea_base::{Blob, List, WantOfMemory};
 use tea_io::{Files, Sink};
+use world::WorldFault;
 
-/// The snapshots of replicas, in order.
+/// The snapshots of whole replicas, in order.
 fn snapshots(alloc: Global, replicas: &Replicas) -> Result<List<Blob>, WantOfMemory>
+    requires { All IsWhole replicas.now }
     ensures { IfOk result (λ snapshots. snapshots ≡ map snapshot_of replicas.now) }
 {
     let mut snapshots = List::new(alloc);
     for replica in replicas.as_slice() {
-        let Ok(snapshot) = replica.snap() else {
-            return Err(WantOfMemory);
-        };
-        snapshots.push(snapshot)?;
+        match replica.snap() {
+            Ok(snapshot) => snapshots.push(snapshot)?,
+            Err(WorldFault::WantOfMemory) => return Err(WantOfMemory),
+            Err(WorldFault::Broken) => unreachable!(),
+            Err(WorldFault::Back { .. }) => unreachable!(),
+        }
     }
     Ok(snapshots)
 }
@@ -37,6 +42,7 @@ fn outcome_of(
     request: DrillRequest,
     report: DrillReport,
 ) -> Result<Outcome, WantOfMemory>
+    requires { All IsWhole report.replicas }
     ensures { IfOk result (λ outcome. steps_of outcome.files outcome.text
         ≡ drilled_steps request report.session.plain (map snapshot_of report.replicas) report.total report.agree) }
 {
@@ -55,7 +61,7 @@ fn outcome_of(
     drilled_outcome(alloc, request, drilled)
 }
 
-/// Tells what has come of a drill.
+/// Tells what has come of a drill, whose replicas are whole.
 pub(crate) fn tell_drilled<F: Files, W: Sink>(
     alloc: Global,
     request: DrillRequest,
@@ -63,8 +69,9 @@ pub(crate) fn tell_drilled<F: Files, W: Sink>(
     files: &mut F,
     out: &mut W,
 ) -> Status
-    ensures { RanBySteps (desk_tells (files_tell F.held F.asked F.faults F.wants) (output_tells W.written W.faults W.wants))
-        (OfReport request answer) (desk files.old out.old) (desk files.new out.new) result }
+    requires { IfOk answer (λ report. All IsWhole report.replicas) }
+    ensures { RanBySteps (files_side_tells (files_tell F.Files) (output_tells W.Sink))
+        (OfReport request answer) (files_side files.old out.old) (files_side files.new out.new) result }
 {
     let Ok(report) = answer else {
         return tell_want_of_memory(out);

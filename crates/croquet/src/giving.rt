@@ -1,6 +1,6 @@
 //! What a command gives: its files are put, and then its text is printed.
 ghost use Rattle.std.specs.Prelude.{◌≡◌, IfErr, OnOk};
-ghost use Rattle.run_steps.specs.Outside.{LooksAt, PutsFile, Well, desk, desk_tells, files_tell, output_tells};
+ghost use Rattle.run_steps.specs.Outside.{LooksAt, PutsFile, Well, files_side, files_side_tells, files_tell, output_tells};
 ghost use Rattle.command_outcome.specs.Outcome.{steps_of};
 ghost use Rattle.croquet.specs.Calls.{Completes, TellsNoPlace, TellsUnput, all_well};
 ghost use Rattle.croquet.specs.Run.{Does};
@@ -18,9 +18,9 @@ pub(crate) fn put_or_tell<F: Files, W: Sink>(
     files: &mut F,
     out: &mut W,
 ) -> Result<(), Status>
-    ensures put { OnOk result (PutsFile (files_tell F.held F.asked F.faults F.wants) Well put.now.name put.now.bytes files.old files.new) }
+    ensures put { OnOk result (PutsFile (files_tell F.Files) Well put.now.name put.now.bytes files.old files.new) }
     ensures quiet { OnOk result (out.new ≡ out.old) }
-    ensures told { IfErr result (TellsUnput (files_tell F.held F.asked F.faults F.wants) (output_tells W.written W.faults W.wants)
+    ensures told { IfErr result (TellsUnput (files_tell F.Files) (output_tells W.Sink)
         put.now files.old out.old files.new out.new) }
 {
     match put_file(files, &put.name, put.bytes.bytes()) {
@@ -36,9 +36,9 @@ pub(crate) fn look_or_tell<F: Files, W: Sink>(
     files: &mut F,
     out: &mut W,
 ) -> Result<(), Status>
-    ensures looked { OnOk result (LooksAt (files_tell F.held F.asked F.faults F.wants) Well name.now files.old files.new) }
+    ensures looked { OnOk result (LooksAt (files_tell F.Files) Well name.now files.old files.new) }
     ensures quiet { OnOk result (out.new ≡ out.old) }
-    ensures told { IfErr result (TellsNoPlace (files_tell F.held F.asked F.faults F.wants) (output_tells W.written W.faults W.wants)
+    ensures told { IfErr result (TellsNoPlace (files_tell F.Files) (output_tells W.Sink)
         name.now files.old out.old files.new out.new) }
 {
     match look_at(files, name) {
@@ -54,14 +54,12 @@ pub(crate) fn give<F: Files, W: Sink>(
     files: &mut F,
     out: &mut W,
 ) -> Result<(), Status>
-    ensures { Completes (desk_tells (files_tell F.held F.asked F.faults F.wants) (output_tells W.written W.faults W.wants))
-        (steps_of outcome.now.files outcome.now.text) result (desk files.old out.old) (desk files.new out.new) }
+    ensures { Completes (files_side_tells (files_tell F.Files) (output_tells W.Sink))
+        (steps_of outcome.now.files outcome.now.text) result (files_side files.old out.old)
+        (files_side files.new out.new) }
 {
     for put in outcome.files.as_slice() {
-        match put_or_tell(put, files, out) {
-            Ok(()) => {}
-            Err(status) => return Err(status),
-        }
+        put_or_tell(put, files, out)?;
     }
     match print_text(out, outcome.text.bytes()) {
         Ok(()) => Ok(()),
@@ -72,8 +70,9 @@ pub(crate) fn give<F: Files, W: Sink>(
 
 /// Puts the files of a command and prints its text, which is all that it does.
 pub(crate) fn finish<F: Files, W: Sink>(outcome: &Outcome, files: &mut F, out: &mut W) -> Status
-    ensures { Does (desk_tells (files_tell F.held F.asked F.faults F.wants) (output_tells W.written W.faults W.wants))
-        (steps_of outcome.now.files outcome.now.text) all_well (desk files.old out.old) (desk files.new out.new) result }
+    ensures { Does (files_side_tells (files_tell F.Files) (output_tells W.Sink))
+        (steps_of outcome.now.files outcome.now.text) all_well (files_side files.old out.old)
+        (files_side files.new out.new) result }
 {
     match give(outcome, files, out) {
         Ok(()) => Status::Ok,

@@ -1,6 +1,6 @@
 //! The run of a reflector that keeps a journal, up to where it serves.
 ghost use Rattle.std.specs.Prelude.{◌≡◌, ℕ, List, IfOk, Ok, true};
-ghost use Rattle.run_steps.specs.Outside.{desk, desk_tells, files_tell, output_tells};
+ghost use Rattle.run_steps.specs.Outside.{files_side, files_side_tells, files_tell, output_tells};
 ghost use Rattle.store_io.specs.Stores.{TellsOnly};
 ghost use Rattle.journal_store.specs.Stores.{stores_tell};
 ghost use Rattle.command_outcome.specs.declared.outcome.Input.TheVariants as input;
@@ -44,7 +44,7 @@ pub struct Stopped<J> {
 
 /// Tells why a journal was not opened.
 fn tell_opening<W: Sink>(out: &mut W, fault: OpeningFault) -> Status
-    ensures { TellsEnding (output_tells W.written W.faults W.wants) (opening_ending fault) out.old out.new result }
+    ensures { TellsEnding (output_tells W.Sink) (opening_ending fault) out.old out.new result }
 {
     match fault {
         OpeningFault::Unfounded => tell(out, "write-fault\n", Status::WriteFault),
@@ -55,14 +55,14 @@ fn tell_opening<W: Sink>(out: &mut W, fault: OpeningFault) -> Status
 
 /// Tells that a file is no journal of the session.
 fn tell_no_journal<W: Sink>(out: &mut W) -> Status
-    ensures { TellsEnding (output_tells W.written W.faults W.wants) (refusal_ending (refusal.Input input.Journal)) out.old out.new result }
+    ensures { TellsEnding (output_tells W.Sink) (refusal_ending (refusal.Input input.Journal)) out.old out.new result }
 {
     tell_refusal(out, &CommandRefusal::Input(Input::Journal))
 }
 
 /// Tells why the bytes of a journal were not read.
 fn tell_unread<W: Sink>(out: &mut W, fault: JournalFault) -> Status
-    ensures { TellsEnding (output_tells W.written W.faults W.wants) (unread_ending fault) out.old out.new result }
+    ensures { TellsEnding (output_tells W.Sink) (unread_ending fault) out.old out.new result }
 {
     match fault {
         JournalFault::NoJournal => tell_no_journal(out),
@@ -73,7 +73,7 @@ fn tell_unread<W: Sink>(out: &mut W, fault: JournalFault) -> Status
 
 /// Tells why a session does not go on from its journal.
 fn tell_ungone<W: Sink>(out: &mut W, fault: StoreFault) -> Status
-    ensures { TellsEnding (output_tells W.written W.faults W.wants) (ungone_ending fault) out.old out.new result }
+    ensures { TellsEnding (output_tells W.Sink) (ungone_ending fault) out.old out.new result }
 {
     match fault {
         StoreFault::Failed => tell(out, "write-fault\n", Status::WriteFault),
@@ -89,8 +89,8 @@ fn open<W: Sink, S: Stores>(
     stores: &mut S,
 ) -> Result<Option<There<S::Store>>, Status>
     requires { IsBoundedKeeping keeping.now }
-    ensures opens { OpensOrTells (output_tells W.written W.faults W.wants) (stores_tell S.held S.faults S.Store.bytes S.Store.safe S.Store.faults)
-        (plain_keeping keeping.now) result out.old out.new stores.old stores.new }
+    ensures opens { OpensOrTells (output_tells W.Sink)
+        (stores_tell S.Stores S.Store.Store) (plain_keeping keeping.now) result out.old out.new stores.old stores.new }
     ensures out { HasStore (S.is_out stores.new keeping.now.journal) result }
 {
     match open_journal(
@@ -118,6 +118,7 @@ fn kept_turn(turn: Turn) -> Result<Keeping, Status>
         Turn::Visits(_) => unreachable!(),
         Turn::Lives(_) => unreachable!(),
         Turn::Reflects(_) => unreachable!(),
+        Turn::Hosts(_) => unreachable!(),
         Turn::Drills(_) => unreachable!(),
     }
 }
@@ -130,8 +131,9 @@ fn found<F: Files, W: Sink>(
     out: &mut W,
 ) -> Result<Keeping, Status>
     requires { IsBoundedKeeping keeping }
-    ensures founds { FoundsOrEnds (desk_tells (files_tell F.held F.asked F.faults F.wants) (output_tells W.written W.faults W.wants))
-        (plain_keeping keeping) result (desk files.old out.old) (desk files.new out.new) }
+    ensures founds { FoundsOrEnds
+        (files_side_tells (files_tell F.Files) (output_tells W.Sink))
+        (plain_keeping keeping) result (files_side files.old out.old) (files_side files.new out.new) }
     ensures bounded { IfOk result IsBoundedKeeping }
 {
     if keeping.opening.is_some() {
@@ -149,19 +151,17 @@ fn found_and_open<F: Files, W: Sink, S: Stores>(
     stores: &mut S,
 ) -> Result<(Keeping, There<S::Store>), Status>
     requires bounded { IsBoundedKeeping keeping }
-    ensures opens { (s : S) → OpensKeeping (stores_tell S.held S.faults S.Store.bytes S.Store.safe S.Store.faults) (plain_keeping keeping) (Ok opened.Absent) s stores.old
-        → OpensOrEnds (desk_tells (files_tell F.held F.asked F.faults F.wants) (output_tells W.written W.faults W.wants)) (stores_tell S.held S.faults S.Store.bytes S.Store.safe S.Store.faults)
-        (plain_keeping keeping) result (desk files.old out.old) (desk files.new out.new) s stores.new }
+    ensures opens { (s : S) → OpensKeeping (stores_tell S.Stores S.Store.Store)
+        (plain_keeping keeping) (Ok opened.Absent) s stores.old
+        → OpensOrEnds (files_side_tells (files_tell F.Files) (output_tells W.Sink)) (stores_tell S.Stores S.Store.Store)
+        (plain_keeping keeping) result (files_side files.old out.old) (files_side files.new out.new) s stores.new }
     ensures bounded { IfOk result (λ found. IsBoundedKeeping found.0) }
     ensures out { IfOk result (λ found. S.is_out stores.new found.0.journal ≡ true) }
 {
-    match found(alloc, keeping, files, out) {
-        Ok(keeping) => match open(alloc, &keeping, out, stores) {
-            Ok(Some(there)) => Ok((keeping, there)),
-            Ok(None) => Err(tell(out, "read-fault\n", Status::ReadFault)),
-            Err(status) => Err(status),
-        },
-        Err(status) => Err(status),
+    let keeping = found(alloc, keeping, files, out)?;
+    match open(alloc, &keeping, out, stores)? {
+        Some(there) => Ok((keeping, there)),
+        None => Err(tell(out, "read-fault\n", Status::ReadFault)),
     }
 }
 
@@ -174,15 +174,15 @@ fn open_or_found<F: Files, W: Sink, S: Stores>(
     stores: &mut S,
 ) -> Result<(Keeping, There<S::Store>), Status>
     requires bounded { IsBoundedKeeping keeping }
-    ensures opens { OpensOrEnds (desk_tells (files_tell F.held F.asked F.faults F.wants) (output_tells W.written W.faults W.wants)) (stores_tell S.held S.faults S.Store.bytes S.Store.safe S.Store.faults)
-        (plain_keeping keeping) result (desk files.old out.old) (desk files.new out.new) stores.old stores.new }
+    ensures opens { OpensOrEnds (files_side_tells (files_tell F.Files) (output_tells W.Sink))
+        (stores_tell S.Stores S.Store.Store) (plain_keeping keeping) result (files_side files.old out.old)
+        (files_side files.new out.new) stores.old stores.new }
     ensures bounded { IfOk result (λ found. IsBoundedKeeping found.0) }
     ensures out { IfOk result (λ found. S.is_out stores.new found.0.journal ≡ true) }
 {
-    match open(alloc, &keeping, out, stores) {
-        Ok(Some(there)) => Ok((keeping, there)),
-        Ok(None) => found_and_open(alloc, keeping, files, out, stores),
-        Err(status) => Err(status),
+    match open(alloc, &keeping, out, stores)? {
+        Some(there) => Ok((keeping, there)),
+        None => found_and_open(alloc, keeping, files, out, stores),
     }
 }
 
@@ -195,7 +195,8 @@ fn resume<W: Sink, J: Store + Drop>(
     out: &mut W,
 ) -> Result<Opening<JournalKeeper<J>>, Stopped<J>>
     requires { WasReadAs (J.bytes store) keeping.now going }
-    ensures { ResumesOrTells (output_tells W.written W.faults W.wants) J.bytes J.safe J.faults store (kept_place going) result out.old out.new }
+    ensures { ResumesOrTells (output_tells W.Sink) J.bytes J.safe J.faults store
+        (kept_place going) result out.old out.new }
 {
     let GoingOn {
         stored,
@@ -229,8 +230,10 @@ fn put_and_resume<F: Files, W: Sink, J: Store + Drop>(
     out: &mut W,
 ) -> Result<Opening<JournalKeeper<J>>, Stopped<J>>
     requires { WasReadAs (J.bytes store) keeping.now going }
-    ensures { (bytes : List ℕ) → GoesOnFrom keeping.now bytes going → ReadsJournal (desk_tells (files_tell F.held F.asked F.faults F.wants) (output_tells W.written W.faults W.wants))
-        J.bytes J.safe J.faults (plain_keeping keeping.now) store bytes result (desk files.old out.old) (desk files.new out.new) }
+    ensures { (bytes : List ℕ) → GoesOnFrom keeping.now bytes going
+        → ReadsJournal (files_side_tells (files_tell F.Files) (output_tells W.Sink))
+        J.bytes J.safe J.faults (plain_keeping keeping.now) store bytes result (files_side files.old out.old)
+        (files_side files.new out.new) }
 {
     match give(&going.outcome, files, out) {
         Ok(()) => resume(alloc, keeping, store, going, out),
@@ -248,8 +251,9 @@ fn read_and_resume<F: Files, W: Sink, J: Store + Drop>(
     out: &mut W,
 ) -> Result<Opening<JournalKeeper<J>>, Stopped<J>>
     requires { TellsOnly (J.bytes store) bytes.now }
-    ensures { ReadsJournal (desk_tells (files_tell F.held F.asked F.faults F.wants) (output_tells W.written W.faults W.wants))
-        J.bytes J.safe J.faults (plain_keeping keeping.now) store bytes.now result (desk files.old out.old) (desk files.new out.new) }
+    ensures { ReadsJournal (files_side_tells (files_tell F.Files) (output_tells W.Sink))
+        J.bytes J.safe J.faults (plain_keeping keeping.now) store bytes.now result (files_side files.old out.old)
+        (files_side files.new out.new) }
 {
     match read_kept(alloc, keeping, bytes) {
         Ok(going) => put_and_resume(alloc, keeping, store, going, files, out),
@@ -272,8 +276,9 @@ fn resume_there<F: Files, W: Sink, S: Stores<Store = J>, J: Store + Drop>(
     requires bounded { IsBoundedKeeping keeping }
     requires tells { TellsOnly (J.bytes there.store) there.bytes }
     requires out { S.is_out stores.old keeping.journal ≡ true }
-    ensures resumes { ResumesThere (desk_tells (files_tell F.held F.asked F.faults F.wants) (output_tells W.written W.faults W.wants)) (stores_tell S.held S.faults J.bytes J.safe J.faults)
-        keeping there result (desk files.old out.old) (desk files.new out.new) stores.old stores.new }
+    ensures resumes { ResumesThere
+        (files_side_tells (files_tell F.Files) (output_tells W.Sink)) (stores_tell S.Stores J.Store)
+        keeping there result (files_side files.old out.old) (files_side files.new out.new) stores.old stores.new }
     ensures bounded { IfOk result (λ ready. IsBoundedKeeping ready.0) }
     ensures out { IfOk result (λ ready. S.is_out stores.new ready.0.journal ≡ true) }
 {
@@ -297,13 +302,13 @@ pub(crate) fn prepare<F: Files, W: Sink, S: Stores<Store = J>, J: Store + Drop>(
     stores: &mut S,
 ) -> Result<(Keeping, Opening<JournalKeeper<J>>), Status>
     requires { IsBoundedKeeping keeping }
-    ensures prepares { Prepares (desk_tells (files_tell F.held F.asked F.faults F.wants) (output_tells W.written W.faults W.wants)) (stores_tell S.held S.faults J.bytes J.safe J.faults)
-        (plain_keeping keeping) result (desk files.old out.old) (desk files.new out.new) stores.old stores.new }
+    ensures prepares { Prepares (files_side_tells (files_tell F.Files)
+        (output_tells W.Sink)) (stores_tell S.Stores J.Store)
+        (plain_keeping keeping) result (files_side files.old out.old)
+        (files_side files.new out.new) stores.old stores.new }
     ensures bounded { IfOk result (λ ready. IsBoundedKeeping ready.0) }
     ensures out { IfOk result (λ ready. S.is_out stores.new ready.0.journal ≡ true) }
 {
-    match open_or_found(alloc, keeping, files, out, stores) {
-        Ok((keeping, there)) => resume_there(alloc, keeping, there, files, out, stores),
-        Err(status) => Err(status),
-    }
+    let (keeping, there) = open_or_found(alloc, keeping, files, out, stores)?;
+    resume_there(alloc, keeping, there, files, out, stores)
 }

@@ -28,7 +28,7 @@ fn is_shut<J>(keeper: &JournalKeeper<J>) -> bool
 
 /// What a store safely holds is read as the play of the history that was kept, whatever call of it has failed.
 pub(crate) fn stores_keep_plays<S: Stores<Store = J>, J: Store>()
-    ensures { StoresKeepPlays (stores_tell S.held S.faults J.bytes J.safe J.faults) }
+    ensures { StoresKeepPlays (stores_tell S.Stores J.Store) }
 {
     safe_bytes_are_read();
 }
@@ -58,10 +58,9 @@ pub(crate) fn serve_kept<
     requires connections { AreConnections keeping.connections }
     requires goes_on { GoesOnWith J.bytes J.safe opening.session.plain opening.keeper }
     requires out { S.is_out stores.old keeping.journal ≡ true }
-    ensures { ServedAs (C.gives clock.now) (outside_tells (files_tell F.held F.asked F.faults F.wants) (output_tells W.written W.faults W.wants)
-        (net_tells N.coming N.over N.asked N.faults N.lent N.link_counts)
-        (links_tell N.Conn.coming N.Conn.heard N.Conn.sent N.Conn.counts))
-        (stores_tell S.held S.faults J.bytes J.safe J.faults) (plain_keeping keeping) opening
+    ensures { ServedAs (C.gives clock.now)
+        (outside_tells (files_tell F.Files) (output_tells W.Sink) (net_tells N.Net) (links_tell N.Conn.Link))
+        (stores_tell S.Stores J.Store) (plain_keeping keeping) opening
         (outside files.old out.old net None) (outside files.new out.new result.0 None) stores.old stores.new result.1 }
 {
     let server = Server {

@@ -16,7 +16,7 @@ use view_follows::live_ends_are_caused;
 
 /// Tells how the run of a live view has ended.
 fn tell_live_end<W: Sink>(alloc: Global, out: &mut W, end: LiveEnd) -> Status
-    ensures { TellsLiveEnd (output_tells W.written W.faults W.wants) end out.old out.new result }
+    ensures { TellsLiveEnd (output_tells W.Sink) end out.old out.new result }
 {
     match end {
         LiveEnd::View(end) => tell_view_end(alloc, out, end),
@@ -34,8 +34,7 @@ pub fn run_live_view<R: Wait, N: Net, K: Feed, W: Sink>(
     out: &mut W,
 ) -> Status
     ensures { LiveViewRan
-        (live_tells (feed_tells K.coming K.told K.faults) (output_tells W.written W.faults W.wants) (net_tells N.coming N.over N.asked N.faults N.lent N.link_counts)
-        (links_tell N.Conn.coming N.Conn.heard N.Conn.sent N.Conn.counts))
+        (live_tells (feed_tells K.Feed) (output_tells W.Sink) (net_tells N.Net) (links_tell N.Conn.Link))
         (plain_live start) feed.old feed.new out.old out.new net.old net.new result }
 {
     let LiveStart {
@@ -59,9 +58,8 @@ pub fn run_live_view<R: Wait, N: Net, K: Feed, W: Sink>(
 
 /// Which links keep a live view's run from an end that is not its lines'.
 pub(crate) fn live_runs_are_caused<F: Files, N: Net, K: Feed, W: Sink>()
-    ensures { LiveEndsAreCaused (files_tell F.held F.asked F.faults F.wants) (feed_tells K.coming K.told K.faults) (output_tells W.written W.faults W.wants)
-        (net_tells N.coming N.over N.asked N.faults N.lent N.link_counts)
-        (links_tell N.Conn.coming N.Conn.heard N.Conn.sent N.Conn.counts) }
+    ensures { LiveEndsAreCaused (files_tell F.Files) (feed_tells K.Feed)
+        (output_tells W.Sink) (net_tells N.Net) (links_tell N.Conn.Link) }
 {
     live_ends_are_caused();
 }

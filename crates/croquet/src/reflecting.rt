@@ -1,5 +1,5 @@
 //! What a reflector's run puts and tells after its reflector.
-ghost use Rattle.run_steps.specs.Outside.{desk, desk_tells, files_tell, output_tells};
+ghost use Rattle.run_steps.specs.Outside.{files_side, files_side_tells, files_tell, output_tells};
 ghost use Rattle.run_steps.specs.Steps.{Puts};
 ghost use Rattle.command_reflect.specs.ReflectedSteps.{log_name, reflected_bytes};
 ghost use Rattle.commands.specs.Verdict.{Free, OfEnds, Only, Then, reflected_verdict};
@@ -20,7 +20,7 @@ pub(crate) fn look_for_log<F: Files, W: Sink>(
     files: &mut F,
     out: &mut W,
 ) -> Result<(), Status>
-    ensures { LooksOrEnds (files_tell F.held F.asked F.faults F.wants) (output_tells W.written W.faults W.wants)
+    ensures { LooksOrEnds (files_tell F.Files) (output_tells W.Sink)
         (log_name log.now) result files.old out.old files.new out.new }
 {
     match log {
@@ -31,7 +31,7 @@ pub(crate) fn look_for_log<F: Files, W: Sink>(
 
 /// Tells why the net gave no further link.
 fn tell_stop<W: Sink>(out: &mut W, fault: NetFault) -> Status
-    ensures { TellsEnding (output_tells W.written W.faults W.wants) (stop_ending fault) out.old out.new result }
+    ensures { TellsEnding (output_tells W.Sink) (stop_ending fault) out.old out.new result }
 {
     match fault {
         NetFault::Failed => tell(out, "net-fault\n", Status::NetFault),
@@ -40,8 +40,8 @@ fn tell_stop<W: Sink>(out: &mut W, fault: NetFault) -> Status
 }
 
 /// Tells whether a call was not kept, and else why the net gave no further link, after all that was done.
-fn tell_end<W: Sink>(out: &mut W, unkept: bool, stopped: Option<NetFault>) -> Status
-    ensures { TellsEnding (output_tells W.written W.faults W.wants) (reflected_ending unkept stopped) out.old out.new result }
+pub(crate) fn tell_end<W: Sink>(out: &mut W, unkept: bool, stopped: Option<NetFault>) -> Status
+    ensures { TellsEnding (output_tells W.Sink) (reflected_ending unkept stopped) out.old out.new result }
 {
     if unkept {
         return tell(out, "write-fault\n", Status::WriteFault);
@@ -60,9 +60,9 @@ fn give_ends<F: Files, W: Sink>(
     files: &mut F,
     out: &mut W,
 ) -> Status
-    ensures { RanBySteps (desk_tells (files_tell F.held F.asked F.faults F.wants) (output_tells W.written W.faults W.wants))
+    ensures { RanBySteps (files_side_tells (files_tell F.Files) (output_tells W.Sink))
         (Free (Only (reflected_verdict reflected.now.ends reflected.now.session.plain unkept reflected.now.stopped)))
-        (desk files.old out.old) (desk files.new out.new) result }
+        (files_side files.old out.old) (files_side files.new out.new) result }
 {
     let Ok(outcome) = reflected_outcome(alloc, reflected.ends.as_slice(), &reflected.session) else {
         return tell_want_of_memory(out);
@@ -82,9 +82,10 @@ fn put_reflected<F: Files, W: Sink>(
     files: &mut F,
     out: &mut W,
 ) -> Status
-    ensures { RanBySteps (desk_tells (files_tell F.held F.asked F.faults F.wants) (output_tells W.written W.faults W.wants))
-        (Then (Puts place.name (reflected_bytes reflected.now.session.plain)) (Free (Only (reflected_verdict reflected.now.ends reflected.now.session.plain unkept reflected.now.stopped))))
-        (desk files.old out.old) (desk files.new out.new) result }
+    ensures { RanBySteps (files_side_tells (files_tell F.Files) (output_tells W.Sink))
+        (Then (Puts place.name (reflected_bytes reflected.now.session.plain))
+        (Free (Only (reflected_verdict reflected.now.ends reflected.now.session.plain unkept reflected.now.stopped))))
+        (files_side files.old out.old) (files_side files.new out.new) result }
 {
     let put = reflected_put(place, &reflected.session);
     match put_or_tell(&put, files, out) {
@@ -102,9 +103,9 @@ fn give_reflected<F: Files, W: Sink>(
     files: &mut F,
     out: &mut W,
 ) -> Status
-    ensures { RanBySteps (desk_tells (files_tell F.held F.asked F.faults F.wants) (output_tells W.written W.faults W.wants))
+    ensures { RanBySteps (files_side_tells (files_tell F.Files) (output_tells W.Sink))
         (OfEnds (log_name log) reflected.now.ends reflected.now.session.plain unkept reflected.now.stopped)
-        (desk files.old out.old) (desk files.new out.new) result }
+        (files_side files.old out.old) (files_side files.new out.new) result }
 {
     match log {
         None => give_ends(alloc, unkept, reflected, files, out),
@@ -112,9 +113,9 @@ fn give_reflected<F: Files, W: Sink>(
     }
 }
 
-/// Tells why a reflector has no session to tell of.
-fn tell_fault<W: Sink>(fault: ServeFault, out: &mut W) -> Status
-    ensures { TellsEnding (output_tells W.written W.faults W.wants) (fault_ending fault) out.old out.new result }
+/// Tells why a reflector or a host has no session to tell of.
+pub(crate) fn tell_fault<W: Sink>(fault: ServeFault, out: &mut W) -> Status
+    ensures { TellsEnding (output_tells W.Sink) (fault_ending fault) out.old out.new result }
 {
     match fault {
         ServeFault::ListenFault => tell(out, "net-fault\n", Status::NetFault),
@@ -130,8 +131,8 @@ pub(crate) fn tell_reflected<F: Files, W: Sink>(
     files: &mut F,
     out: &mut W,
 ) -> Status
-    ensures { RanBySteps (desk_tells (files_tell F.held F.asked F.faults F.wants) (output_tells W.written W.faults W.wants))
-        (OfReflected (log_name log) answer) (desk files.old out.old) (desk files.new out.new) result }
+    ensures { RanBySteps (files_side_tells (files_tell F.Files) (output_tells W.Sink))
+        (OfReflected (log_name log) answer) (files_side files.old out.old) (files_side files.new out.new) result }
 {
     match answer {
         Ok(reflected) => give_reflected(alloc, log, false, &reflected, files, out),
@@ -141,7 +142,7 @@ pub(crate) fn tell_reflected<F: Files, W: Sink>(
 
 /// Tells why a reflector whose session has a keeper has no session to tell of.
 fn tell_kept_fault<W: Sink>(fault: KeptFault, out: &mut W) -> Status
-    ensures { TellsEnding (output_tells W.written W.faults W.wants) (kept_fault_ending fault) out.old out.new result }
+    ensures { TellsEnding (output_tells W.Sink) (kept_fault_ending fault) out.old out.new result }
 {
     match fault {
         KeptFault::ListenFault => tell(out, "net-fault\n", Status::NetFault),
@@ -159,8 +160,8 @@ pub(crate) fn tell_kept<F: Files, W: Sink>(
     files: &mut F,
     out: &mut W,
 ) -> Status
-    ensures { RanBySteps (desk_tells (files_tell F.held F.asked F.faults F.wants) (output_tells W.written W.faults W.wants))
-        (OfKept (log_name log) unkept answer) (desk files.old out.old) (desk files.new out.new) result }
+    ensures { RanBySteps (files_side_tells (files_tell F.Files) (output_tells W.Sink))
+        (OfKept (log_name log) unkept answer) (files_side files.old out.old) (files_side files.new out.new) result }
 {
     match answer {
         Ok(reflected) => give_reflected(alloc, log, unkept, &reflected, files, out),

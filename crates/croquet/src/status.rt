@@ -9,8 +9,8 @@ pub enum Status {
     Usage,
     /// The program is refused.
     Program,
-    /// An input is not in its grammar or above its limit, the time of a replay is below that of its snapshot, the address is none, or
-    /// an inspection would keep too many worlds.
+    /// An input is not in its grammar or above its limit, the time of a replay is below that of its snapshot, the address is none,
+    /// an inspection would keep too many worlds, or two sessions of a host have one id.
     Input,
     /// A file was not read.
     ReadFault,

@@ -16,7 +16,7 @@ use view_shell::ViewEnd;
 
 /// The end of a run for which memory was wanting.
 pub fn tell_want_of_memory<W: Sink>(out: &mut W) -> Status
-    ensures { TellsMemory (output_tells W.written W.faults W.wants) out.old out.new result }
+    ensures { TellsMemory (output_tells W.Sink) out.old out.new result }
 {
     match print_text(out, b"memory\n") {
         Ok(()) => Status::WantOfMemory,
@@ -27,7 +27,7 @@ pub fn tell_want_of_memory<W: Sink>(out: &mut W) -> Status
 
 /// Writes a last line, and gives this status. An output that fails at it decides the status.
 pub(crate) fn tell_line<W: Sink>(out: &mut W, line: &[u8], status: Status) -> Status
-    ensures { Tells (output_tells W.written W.faults W.wants) line.now status out.old out.new result }
+    ensures { Tells (output_tells W.Sink) line.now status out.old out.new result }
 {
     match print_text(out, line) {
         Ok(()) => status,
@@ -38,7 +38,7 @@ pub(crate) fn tell_line<W: Sink>(out: &mut W, line: &[u8], status: Status) -> St
 
 /// The same of a line of text.
 pub(crate) fn tell<W: Sink>(out: &mut W, line: &str, status: Status) -> Status
-    ensures { Tells (output_tells W.written W.faults W.wants) line.now status out.old out.new result }
+    ensures { Tells (output_tells W.Sink) line.now status out.old out.new result }
 {
     tell_line(out, line.as_bytes(), status)
 }
@@ -58,12 +58,13 @@ fn input_line(input: Input) -> &'static str
         Input::Address => "input address\n",
         Input::Every => "input every\n",
         Input::Queries => "input queries\n",
+        Input::Config => "input config\n",
     }
 }
 
 /// Tells a refusal.
 pub(crate) fn tell_refusal<W: Sink>(out: &mut W, refusal: &CommandRefusal) -> Status
-    ensures { TellsEnding (output_tells W.written W.faults W.wants) (refusal_ending refusal.now) out.old out.new result }
+    ensures { TellsEnding (output_tells W.Sink) (refusal_ending refusal.now) out.old out.new result }
 {
     match refusal {
         CommandRefusal::Usage => tell(out, "usage\n", Status::Usage),
@@ -83,7 +84,7 @@ fn refused_line(alloc: Global, code: u8, kept: u64) -> Result<String, WantOfMemo
 
 /// Tells that the reflector refused a frame.
 fn tell_refused_frame<W: Sink>(alloc: Global, out: &mut W, code: u8, kept: u64) -> Status
-    ensures { TellsViewEnd (output_tells W.written W.faults W.wants) (view_end.Refused code kept) out.old out.new result }
+    ensures { TellsViewEnd (output_tells W.Sink) (view_end.Refused code kept) out.old out.new result }
 {
     match refused_line(alloc, code, kept) {
         Ok(line) => tell(out, line.as_str(), Status::Refused),
@@ -93,7 +94,7 @@ fn tell_refused_frame<W: Sink>(alloc: Global, out: &mut W, code: u8, kept: u64) 
 
 /// Tells how the run of a view has ended.
 pub(crate) fn tell_view_end<W: Sink>(alloc: Global, out: &mut W, end: ViewEnd) -> Status
-    ensures { TellsViewEnd (output_tells W.written W.faults W.wants) end out.old out.new result }
+    ensures { TellsViewEnd (output_tells W.Sink) end out.old out.new result }
 {
     match end {
         ViewEnd::Done => Status::Ok,

@@ -1,14 +1,14 @@
 //! The top call: all that the program does.
 ghost use Rattle.std.specs.Prelude.{◌≡◌, None, List};
 ghost use Rattle.run_steps.specs.Calls.{came_of, given_of};
-ghost use Rattle.run_steps.specs.Outside.{ReadsFile, desk, desk_tells, files_tell, links_tell, net_tells, output_tells, outside, outside_tells};
+ghost use Rattle.run_steps.specs.Outside.{ReadsFile, files_side, files_side_tells, files_tell, links_tell, net_tells, output_tells, outside, outside_tells};
 ghost use Rattle.command_words.specs.CommandWords.{command_of};
 ghost use Rattle.command_words.specs.Bounds.{UsesNet, AreConnections};
 ghost use Rattle.command_hub.specs.HubRun.{IsOfCalls};
 ghost use Rattle.command_hub.specs.declared.script.HubLine.{HubLine};
 ghost use Rattle.commands.specs.Laws.{IsFunction, LogsTellTheirEvents, SnapshotsAgree, SomeVerdictComes};
-ghost use Rattle.commands.specs.Verdict.{Comes, OfReady};
-ghost use Rattle.commands.specs.Work.{ComesNext, IsBoundedNext, ask_of, RunsOn, plain_reflection};
+ghost use Rattle.commands.specs.Verdict.{Comes, OfHostReady, OfReady};
+ghost use Rattle.commands.specs.Work.{ComesNext, IsBoundedHosting, IsBoundedNext, ask_of, RunsOn, plain_hosting, plain_reflection};
 ghost use Rattle.view_follows.specs.AnyEnds.{OfRunsOfViews, RunsLiveOn};
 ghost use Rattle.view_follows.specs.Journals.{JournalsLeave};
 ghost use Rattle.view_follows.specs.SessionsReplay.{EndsViews, OfViewRuns};
@@ -26,6 +26,7 @@ ghost use Rattle.live_view.specs.Script.{LiveIsScript};
 
 use crate::drilling::tell_drilled;
 use crate::giving::finish;
+use crate::hosting::{look_for_logs, tell_hosted};
 use crate::keeping::prepare;
 use crate::kept::{serve_kept, stores_keep_plays};
 use crate::living::{live_runs_are_caused, run_live_view};
@@ -33,6 +34,7 @@ use crate::reflecting::{look_for_log, tell_reflected};
 use crate::status::Status;
 use crate::telling::{tell, tell_refusal, tell_want_of_memory};
 use crate::visiting::run_visit;
+use command_host::Hosting;
 use command_hub::names_are_apart;
 use command_reflect::{Keeping, Reflection};
 use command_words::{DrillRequest, read_command};
@@ -41,6 +43,7 @@ use commands::{
     some_verdict,
 };
 use drill::{Size, drill};
+use host_server::{Host, host};
 use live_shell::Feed;
 use live_view::live_is_script;
 use reflect_server::{Server, reflect};
@@ -58,7 +61,7 @@ use view_follows::{
 use view_shell::{one_run, votes_agree};
 use votes_differ::one_did_not_run;
 
-/// A command is over, or the run goes on as a view's, a live view's, a reflector's, or a drill.
+/// A command is over, or the run goes on as a view's, a live view's, a reflector's, a host's, or a drill.
 #[derive(Drop)]
 pub enum Turn {
     /// The command is over, with this status.
@@ -71,13 +74,16 @@ pub enum Turn {
     Reflects(Reflection),
     /// The run goes on as that of a reflector whose journal is to be opened.
     Keeps(Keeping),
+    /// The run goes on as a host's.
+    Hosts(Hosting),
     /// The run goes on as a drill.
     Drills(DrillRequest),
 }
 
 /// Reads the file that a command waits for.
 fn read_asked<F: Files>(files: &mut F, waiting: &Waiting) -> Result<Option<Blob>, CallFault>
-    ensures { ReadsFile (files_tell F.held F.asked F.faults F.wants) (came_of result) (ask_of waiting.now) (given_of result) files.old files.new }
+    ensures { ReadsFile (files_tell F.Files) (came_of result) (ask_of waiting.now)
+        (given_of result) files.old files.new }
 {
     read_file(files, waiting.name(), waiting.limit())
 }
@@ -85,14 +91,30 @@ fn read_asked<F: Files>(files: &mut F, waiting: &Waiting) -> Result<Option<Blob>
 /// A session is ready to be reflected, once the run has looked whether its log can be put in the end.
 fn ready<F: Files, W: Sink>(reflection: Reflection, files: &mut F, out: &mut W) -> Turn
     requires { AreConnections reflection.connections }
-    ensures turns { Turns (desk_tells (files_tell F.held F.asked F.faults F.wants) (output_tells W.written W.faults W.wants))
-        result (OfReady (plain_reflection reflection)) (desk files.old out.old) (desk files.new out.new) }
+    ensures turns { Turns (files_side_tells (files_tell F.Files) (output_tells W.Sink))
+        result (OfReady (plain_reflection reflection)) (files_side files.old out.old) (files_side files.new out.new) }
     ensures bounded { IsBoundedTurn result }
 {
     match look_for_log(&reflection.log, files, out) {
         Ok(()) => Turn::Reflects(reflection),
         Err(status) => {
-            drop(reflection);
+            drop(reflection); // for the prover
+            Turn::Over(status)
+        }
+    }
+}
+
+/// Sessions are ready to be hosted, once the run has looked whether each can be put in the end.
+fn ready_to_host<F: Files, W: Sink>(hosting: Hosting, files: &mut F, out: &mut W) -> Turn
+    requires { IsBoundedHosting hosting }
+    ensures turns { Turns (files_side_tells (files_tell F.Files) (output_tells W.Sink))
+        result (OfHostReady (plain_hosting hosting)) (files_side files.old out.old) (files_side files.new out.new) }
+    ensures bounded { IsBoundedTurn result }
+{
+    match look_for_logs(hosting.logs.as_slice(), files, out) {
+        Ok(()) => Turn::Hosts(hosting),
+        Err(status) => {
+            drop(hosting); // for the prover
             Turn::Over(status)
         }
     }
@@ -106,19 +128,19 @@ pub(crate) fn go_on<F: Files, W: Sink>(
     out: &mut W,
 ) -> Turn
     requires { IsBoundedNext next }
-    ensures turns { Turns (desk_tells (files_tell F.held F.asked F.faults F.wants) (output_tells W.written W.faults W.wants))
-        result (ComesNext next) (desk files.old out.old) (desk files.new out.new) }
+    ensures turns { Turns (files_side_tells (files_tell F.Files) (output_tells W.Sink))
+        result (ComesNext next) (files_side files.old out.old) (files_side files.new out.new) }
     ensures bounded { IsBoundedTurn result }
 {
     match next {
         Next::Reads(waiting) => match read_asked(files, &waiting) {
             Ok(given) => go_on(alloc, waiting.hand(alloc, given), files, out),
             Err(CallFault::Failed) => {
-                drop(waiting);
+                drop(waiting); // for the prover
                 Turn::Over(tell(out, "read-fault\n", Status::ReadFault))
             }
             Err(CallFault::WantOfMemory) => {
-                drop(waiting);
+                drop(waiting); // for the prover
                 Turn::Over(tell_want_of_memory(out))
             }
         },
@@ -128,16 +150,17 @@ pub(crate) fn go_on<F: Files, W: Sink>(
         Next::Lives(start) => Turn::Lives(start),
         Next::Reflects(reflection) => ready(reflection, files, out),
         Next::Keeps(keeping) => Turn::Keeps(keeping),
+        Next::Hosts(hosting) => ready_to_host(hosting, files, out),
         Next::Drills(request) => Turn::Drills(request),
         Next::WantOfMemory => Turn::Over(tell_want_of_memory(out)),
     }
 }
 
-/// Runs what the words ask for up to its end, or up to a view's run, a live view's, a reflector's, or a drill. [`croquet`] begins so. It waits for nobody, so it
+/// Runs what the words ask for up to its end, or up to a view's run, a live view's, a reflector's, a host's, or a drill. [`croquet`] begins so. It waits for nobody, so it
 /// returns: `stamp`, `check`, `replay`, `inspect`, `trace`, `votes` and `hub` are over then, and so are words that are refused.
 pub fn begin<F: Files, W: Sink>(alloc: Global, words: &Words, files: &mut F, out: &mut W) -> Turn
-    ensures turns { Turns (desk_tells (files_tell F.held F.asked F.faults F.wants) (output_tells W.written W.faults W.wants))
-        result (Comes (command_of words.now)) (desk files.old out.old) (desk files.new out.new) }
+    ensures turns { Turns (files_side_tells (files_tell F.Files) (output_tells W.Sink))
+        result (Comes (command_of words.now)) (files_side files.old out.old) (files_side files.new out.new) }
     ensures bounded { IsBoundedTurn result }
     ensures over { ¬ RunsOn (command_of words.now) → IsOver result }
 {
@@ -150,8 +173,8 @@ pub fn begin<F: Files, W: Sink>(alloc: Global, words: &Words, files: &mut F, out
 /// Runs what the words ask for over these files, these stores and this net, and writes its text, or the line of its one fault, to `out`. It gives
 /// the net back. A live view does the lines of `feed`, which no other command asks. This is all that the program does once it has its words.
 ///
-/// All commands but `join`, `reflect` and `drill` wait for nobody, so they return. The run of `join` ends when its script or its feed does, or its
-/// net; that of `reflect` when it has accepted all its links, and all of them have ended; that of `drill` when its views have ended.
+/// All commands but `join`, `reflect`, `host` and `drill` wait for nobody, so they return. The run of `join` ends when its script or its feed does, or its
+/// net; that of `reflect` or `host` when it has accepted all its links, and all of them have ended; that of `drill` when its views have ended.
 pub fn croquet<
     R: Threads + Wait + Sync,
     F: Files,
@@ -179,29 +202,28 @@ pub fn croquet<
     // steps and an end come of what it answers. One that keeps a journal opens its store before that, and founds it where it is not there; what
     // the store safely holds covers the session that was served, whatever call of it has failed. Of `drill` the session is put, and of each view the snapshot of the log's replay.
     // A live view asks its feed and its links in some order; what it sends and prints is `live_step` over what they told, up to a cut, and then
-    // the line of the fault, and each of its links goes back. No other command asks the feed.
-    ensures ran { Ran (C.gives clock.now) (outside_tells (files_tell F.held F.asked F.faults F.wants) (output_tells W.written W.faults W.wants)
-        (net_tells N.coming N.over N.asked N.faults N.lent N.link_counts)
-        (links_tell N.Conn.coming N.Conn.heard N.Conn.sent N.Conn.counts))
-        (stores_tell S.held S.faults J.bytes J.safe J.faults) (feed_tells K.coming K.told K.faults)
-        (Comes (command_of words.now)) (outside files.old out.old net None) (outside files.new out.new result.0 None) stores.old stores.new feed.old feed.new result.1 }
+    // the line of the fault, and each of its links goes back. No other command asks the feed. Of `host` each session is the play of one history of the
+    // links whose first frame goes to it, as if it were alone, and is put in a file of its own.
+    ensures ran { Ran (C.gives clock.now)
+        (outside_tells (files_tell F.Files) (output_tells W.Sink) (net_tells N.Net) (links_tell N.Conn.Link))
+        (stores_tell S.Stores J.Store) (feed_tells K.Feed)
+        (Comes (command_of words.now)) (outside files.old out.old net None)
+        (outside files.new out.new result.0 None) stores.old stores.new feed.old feed.new result.1 }
     // Where the files tell what they hold, the inputs of a command are right and no call has failed, it is done, unless memory runs out. Of
     // `join` its links have a say too: none, where they went on, refused nothing but a snapshot, and were answered by one legal log, with honest
     // bases and with counts of this view's events alone.
-    ensures complete { IsComplete (files_tell F.held F.asked F.faults F.wants) (output_tells W.written W.faults W.wants)
-        (net_tells N.coming N.over N.asked N.faults N.lent N.link_counts)
-        (links_tell N.Conn.coming N.Conn.heard N.Conn.sent N.Conn.counts)
+    ensures complete { IsComplete (files_tell F.Files) (output_tells W.Sink)
+        (net_tells N.Net) (links_tell N.Conn.Link)
         (command_of words.now) (outside files.old out.old net None) (outside files.new out.new result.0 None) result.1 }
     // Whatever call of a store has failed: where a store that was served tells its bytes, the safe ones are read as a session with the log that the
     // reflector came to, and at least its horizon.
-    ensures kept { StoresKeepPlays (stores_tell S.held S.faults J.bytes J.safe J.faults) }
+    ensures kept { StoresKeepPlays (stores_tell S.Stores J.Store) }
     // One verdict comes of a command and of the bytes that it reads, but for want of memory and for the place of a syntax fault.
     ensures function { IsFunction }
     // A live view ends with its links, refused, by its peer, or by a fault of the net only where its links caused it. Its last line is the replay where one
     // log answered them.
-    ensures caused { LiveEndsAreCaused (files_tell F.held F.asked F.faults F.wants) (feed_tells K.coming K.told K.faults) (output_tells W.written W.faults W.wants)
-        (net_tells N.coming N.over N.asked N.faults N.lent N.link_counts)
-        (links_tell N.Conn.coming N.Conn.heard N.Conn.sent N.Conn.counts) }
+    ensures caused { LiveEndsAreCaused (files_tell F.Files)
+        (feed_tells K.Feed) (output_tells W.Sink) (net_tells N.Net) (links_tell N.Conn.Link) }
     // A view prints one text and sends the same frames, for what its links tell.
     ensures view { IsOneRun }
     // Where all lines of a live view, and their end, come before the first frame, it prints and sends what the script of these lines does.
@@ -210,11 +232,11 @@ pub fn croquet<
     ensures replays { VisitsEndInReplay }
     // However often a reflector whose only clients are views was started again on the file that it wrote, each view that is done printed last
     // the line of the replay of the last log.
-    ensures views { OfViewRuns C.gives (links_tell N.Conn.coming N.Conn.heard N.Conn.sent N.Conn.counts) EndsViews }
+    ensures views { OfViewRuns C.gives (links_tell N.Conn.Link) EndsViews }
     // So it is too where runs ended in any way, also by a kill, and each began with what the one before it may have left.
-    ensures lives { OfRunsOfViews C.gives (links_tell N.Conn.coming N.Conn.heard N.Conn.sent N.Conn.counts) EndsViews }
+    ensures lives { OfRunsOfViews C.gives (links_tell N.Conn.Link) EndsViews }
     // Whoever its clients are, the log of the last of such runs is legal, goes on from that of each run, and serves each connection of each run.
-    ensures serves { RunsLiveOn C.gives (links_tell N.Conn.coming N.Conn.heard N.Conn.sent N.Conn.counts) }
+    ensures serves { RunsLiveOn C.gives (links_tell N.Conn.Link) }
     // Any bytes that begin with the safe ones of a run's journal are read as what the run may have left, where each record behind the safe ones is
     // one that the run was writing and that nobody was told.
     ensures left { JournalsLeave C N.Conn J.bytes J.safe }
@@ -235,28 +257,28 @@ pub fn croquet<
     ensures splits { SplitsShow }
     // What a hub's script leaves and prints is what calls leave and reply, one for each line, and each session of it is as if it were alone.
     ensures apart { (lines : List HubLine) → IsOfCalls lines }
-    // No command but `join` and `reflect` has a net.
+    // No command but `join`, `reflect` and `host` has a net.
     ensures net { ¬ UsesNet (command_of words.now) → result.0 ≡ net }
     // Where the snapshot of a replay is of a world that follows the log, the same comes of it as without it.
     ensures agree { SnapshotsAgree }
 {
-    stores_keep_plays::<S, J>();
-    one_verdict();
-    one_run();
-    votes_agree();
-    one_did_not_run();
-    names_are_apart();
-    ends_are_caused();
-    live_runs_are_caused::<F, N, K, W>();
-    live_is_script();
-    views_replay();
-    views_of_many_runs::<C, N::Conn>();
-    views_of_any_runs::<C, N::Conn>();
-    runs_live_on::<C, N::Conn>();
-    journals_leave::<C, N::Conn, J>();
-    some_verdict();
-    logs_tell_their_events();
-    snapshots_agree();
+    stores_keep_plays::<S, J>(); // for the prover
+    one_verdict(); // for the prover
+    one_run(); // for the prover
+    votes_agree(); // for the prover
+    one_did_not_run(); // for the prover
+    names_are_apart(); // for the prover
+    ends_are_caused(); // for the prover
+    live_runs_are_caused::<F, N, K, W>(); // for the prover
+    live_is_script(); // for the prover
+    views_replay(); // for the prover
+    views_of_many_runs::<C, N::Conn>(); // for the prover
+    views_of_any_runs::<C, N::Conn>(); // for the prover
+    runs_live_on::<C, N::Conn>(); // for the prover
+    journals_leave::<C, N::Conn, J>(); // for the prover
+    some_verdict(); // for the prover
+    logs_tell_their_events(); // for the prover
+    snapshots_agree(); // for the prover
     match begin(alloc, words, files, out) {
         Turn::Over(status) => (net, status),
         Turn::Visits(request) => {
@@ -294,6 +316,24 @@ pub fn croquet<
             }
             Err(status) => (net, status),
         },
+        Turn::Hosts(hosting) => {
+            let Hosting {
+                ids,
+                address,
+                connections,
+                logs,
+            } = hosting;
+            let wanted = Host {
+                ids: ids.as_slice(),
+                address: &address,
+                connections,
+                clock,
+                gate,
+            };
+            let (net, answer) = host(rt, alloc, &wanted, net);
+            let status = tell_hosted(alloc, logs, answer, files, out);
+            (net, status)
+        }
         Turn::Drills(request) => {
             let size = Size {
                 seed: request.seed,

@@ -1,6 +1,6 @@
 //! The run of a view, as a command asks for it.
 ghost use Rattle.std.specs.Prelude.{None};
-ghost use Rattle.run_steps.specs.Outside.{booth, booth_tells, links_tell, net_tells, output_tells};
+ghost use Rattle.run_steps.specs.Outside.{net_side, net_side_tells, links_tell, net_tells, output_tells};
 ghost use Rattle.commands.specs.Work.{visit_of};
 ghost use Rattle.croquet.specs.Calls.{VisitRan};
 
@@ -21,9 +21,8 @@ pub fn run_visit<R: Wait, N: Net, W: Sink>(
     out: &mut W,
 ) -> Status
     ensures { VisitRan
-        (booth_tells (output_tells W.written W.faults W.wants) (net_tells N.coming N.over N.asked N.faults N.lent N.link_counts)
-        (links_tell N.Conn.coming N.Conn.heard N.Conn.sent N.Conn.counts))
-        (visit_of request) (booth out.old net.old None) (booth out.new net.new None) result }
+        (net_side_tells (output_tells W.Sink) (net_tells N.Net) (links_tell N.Conn.Link))
+        (visit_of request) (net_side out.old net.old None) (net_side out.new net.new None) result }
 {
     let VisitRequest {
         program,

@@ -46,6 +46,7 @@ impl Given {
         Ok(())
     }
 
+    /// Adds a file that holds these bytes.
     pub(crate) fn add_file(&mut self, name: &str, bytes: &[u8]) -> Result<(), WantOfMemory> {
         self.files.push(NamedBlob {
             name: Text::copy(self.alloc, name)?,

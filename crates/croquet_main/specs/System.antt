@@ -11,7 +11,8 @@ use Rattle.tea_io.specs.declared.files.FileFault.TheVariants.{Failed, TooLarge, 
 abbrev pub IsCounted : FileCounts → FileCounts → FileFault → Type 0
 IsCounted before now Failed = Rose before.faults now.faults × (before.faults ≤ now.faults) × (now.wants ≡ before.wants)
 IsCounted before now (TooLarge len) = ⊥
-IsCounted before now WantOfMemory = Rose before.wants now.wants × (before.wants ≤ now.wants) × (now.faults ≡ before.faults)
+IsCounted before now WantOfMemory = Rose before.wants now.wants × (before.wants ≤ now.wants)
+    × (now.faults ≡ before.faults)
 
 -- bytes of at most so many, or a length above it
 abbrev pub IsWithin : ℕ → Found → Type 0

@@ -68,8 +68,8 @@ fn run<
     net: N,
     is_terminal: bool,
 ) -> ExitCode {
-    served_is_shared();
-    notes_cross_threads();
+    served_is_shared(); // for the prover
+    notes_cross_threads(); // for the prover
     let (words, feed) = given;
     let quiet = is_quiet(rt);
     let progress = Progress::of(rt.alloc(), &words, !quiet && is_terminal);

@@ -198,10 +198,7 @@ fn write_over<R: rt::Files>(
     ensures cause { FileCause counts.old.faults counts.new.faults result }
     ensures want { FileWant counts.old.wants counts.new.wants result }
 {
-    let done = match File::create(rt, path) {
-        Ok(mut file) => file.write_all(bytes),
-        Err(error) => Err(error),
-    };
+    let done = File::create(rt, path).and_then(|mut file| file.write_all(bytes));
     match done {
         Ok(()) => Ok(()),
         Err(error) => {

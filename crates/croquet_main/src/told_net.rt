@@ -131,32 +131,24 @@ impl<R: Eprint + Clock + AllocGlobal + Copy + Send, N: Net + Refused> Net for To
     }
 
     fn accept(&mut self) -> Result<ToldLink<R, N::Conn>, NetFault> {
-        match self.net.accept() {
-            Ok(link) => {
-                let guest = if self.is_quiet {
-                    None
-                } else {
-                    Some(Guest::new(self.rt.alloc(), self.accepted))
-                };
-                self.accepted = self.accepted.saturating_add(1);
-                Ok(ToldLink::new(self.rt, link, guest, None))
-            }
-            Err(fault) => Err(fault),
-        }
+        let link = self.net.accept()?;
+        let guest = if self.is_quiet {
+            None
+        } else {
+            Some(Guest::new(self.rt.alloc(), self.accepted))
+        };
+        self.accepted = self.accepted.saturating_add(1);
+        Ok(ToldLink::new(self.rt, link, guest, None))
     }
 
     fn connect(&mut self, address: &Text) -> Result<ToldLink<R, N::Conn>, NetFault> {
-        match self.net.connect(address) {
-            Ok(link) => {
-                let watch = if self.is_quiet {
-                    None
-                } else {
-                    watch_of(self.watch.take(), self.served)
-                };
-                Ok(ToldLink::new(self.rt, link, None, watch))
-            }
-            Err(fault) => Err(fault),
-        }
+        let link = self.net.connect(address)?;
+        let watch = if self.is_quiet {
+            None
+        } else {
+            watch_of(self.watch.take(), self.served)
+        };
+        Ok(ToldLink::new(self.rt, link, None, watch))
     }
 
     fn back(&mut self, conn: ToldLink<R, N::Conn>) {

@@ -57,4 +57,16 @@ refusal_value other = 0
 -- what a call of an empty seat tells
 abbrev pub closed_told : Told
 closed_told =
-    record { time = 0; text = 0; frames = 0; unacknowledged = 0; kept = 0; seen = 0; status = 9; want = 2; end = 0; code = 0; here = 0 }
+    record {
+      time = 0;
+      text = 0;
+      frames = 0;
+      unacknowledged = 0;
+      kept = 0;
+      seen = 0;
+      status = 9;
+      want = 2;
+      end = 0;
+      code = 0;
+      here = 0;
+    }

@@ -53,7 +53,9 @@ pub record Founds (program name : List ℕ) (view : ℕ) (page : Page) : Type 0 
   pub reads : IsFaultless program tree
   pub named : IsName name
   pub numbered : 0 < view
-  pub first : (address : List ℕ) → live_state address page.view ≡ first_state (record { tree = tree; persisted = nil }) (session_of program name) view address
+  pub first : (address : List ℕ)
+      → live_state address page.view
+      ≡ first_state (record { tree = tree; persisted = nil }) (session_of program name) view address
   pub silent : IsSilent page.last
 
 -- how the opening of a page of this program, name and view ends

@@ -54,8 +54,10 @@ TellsPage answers.WantOfMemory told old new = Wants told old new
 pub record Looks (old : LiveView) (new : Page) : Type 0 where
   pub frames : new.last.frames ≡ []
   pub here : new.last.here ≡ false
-  pub text : (address : List ℕ) → string_bytes new.last.text ≡ world_text (rested_at old.place (viewer address old.watcher (left old)))
-  pub rests : (address : List ℕ) → viewer address new.view.watcher (left new.view) ≡ rested_at old.place (viewer address old.watcher (left old))
+  pub text : (address : List ℕ)
+      → string_bytes new.last.text ≡ world_text (rested_at old.place (viewer address old.watcher (left old)))
+  pub rests : (address : List ℕ) → viewer address new.view.watcher (left new.view)
+      ≡ rested_at old.place (viewer address old.watcher (left old))
   pub kept : new.view ≡ record old { watcher = new.view.watcher }
   pub had : old.lost ≡ false
 

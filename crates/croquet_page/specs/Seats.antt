@@ -23,7 +23,8 @@ abbrev pub TellsSeat : Option LiveInput → Option Page → Option Page → Told
 TellsSeat told None None says = says ≡ closed_told
 TellsSeat told None (Some new) says = ⊥
 TellsSeat told (Some old) None says = ⊥
-TellsSeat told (Some old) (Some new) says = (answer : Answer) × TellsPage answer told old.view new × (says ≡ told_of answer new)
+TellsSeat told (Some old) (Some new) says = (answer : Answer) × TellsPage answer told old.view new
+    × (says ≡ told_of answer new)
 
 -- a seat whose page is asked for its world
 abbrev pub LooksSeat : Option Page → Option Page → Told → Type 0

@@ -45,7 +45,9 @@ impl Living {
         id: SessionId,
         view: u32,
     ) -> Result<Living, WantOfMemory>
-        ensures { (address : List ℕ) → IfOk result (λ living. live_state address living ≡ first_state (founding_of (arc_value program)) id.0 view address) }
+        ensures { (address : List ℕ)
+            → IfOk result (λ living. live_state address living
+            ≡ first_state (founding_of (arc_value program)) id.0 view address) }
     {
         let held = LiveView::found(alloc, program, id, view)?;
         Ok(Living { held })
@@ -57,7 +59,8 @@ impl Living {
     ///
     /// Once memory was wanted each call answers so, until a link is there.
     pub fn step(&mut self, input: &LiveInput) -> Result<LiveOutcome, WantOfMemory>
-        ensures ok { (address : List ℕ) → IfOk result (λ out. told_by address out self.new ≡ live_step (live_state address self.old) input.now) }
+        ensures ok { (address : List ℕ)
+            → IfOk result (λ out. told_by address out self.new ≡ live_step (live_state address self.old) input.now) }
         ensures err { OnErr result (IsLost self.new self.old input.now) }
         ensures wants { self.old.lost ≡ true → (input.now ≡ tells.Linked → ⊥) → OnOk result ⊥ }
     {
@@ -72,8 +75,12 @@ impl Living {
     pub fn look(&mut self) -> Result<String, WantOfMemory>
         ensures kept { OnOk result (self.new ≡ record self.old { watcher = self.new.watcher }) }
         ensures whole { OnOk result (self.old.lost ≡ false) }
-        ensures rests { (address : List ℕ) → OnOk result (viewer address self.new.watcher (left self.new) ≡ rested_at self.old.place (viewer address self.old.watcher (left self.old))) }
-        ensures text { (address : List ℕ) → IfOk result (λ text. string_bytes text ≡ world_text (rested_at self.old.place (viewer address self.old.watcher (left self.old)))) }
+        ensures rests { (address : List ℕ)
+            → OnOk result (viewer address self.new.watcher (left self.new)
+            ≡ rested_at self.old.place (viewer address self.old.watcher (left self.old))) }
+        ensures text { (address : List ℕ)
+            → IfOk result (λ text. string_bytes text
+            ≡ world_text (rested_at self.old.place (viewer address self.old.watcher (left self.old)))) }
         ensures err { OnErr result (Forgets self.old self.new) }
     {
         self.held.look()

@@ -8,7 +8,7 @@ use Rattle.tea_base.proofs.LogLaws.{TimesRise-legal}
 use Rattle.wire_frames.specs.declared.frame.ServerFrame.TheVariants.{Recv, Tick}
 use Rattle.wire_frames.proofs.Times.{all_until, count_until-at, count_until-cons, early_as_last, later_than_counted}
 use Rattle.reflector_core.specs.PlainSession.{PlainSession, IsSoundSession}
-use Rattle.model_solved.specs.Founding.{Founding, founding_of, IsFounding}
+use Rattle.model_solved.specs.Founding.{CheckedView, Founding, founding_of, IsFounding}
 use Rattle.world.specs.Worlds.{replay}
 use Rattle.replica_plain.specs.Worlds.{Worlds, AreWorlds, replay_world}
 use Rattle.replica_plain.specs.PlainReplica.{PlainReplica}
@@ -20,7 +20,7 @@ use Rattle.replica_plain.proofs.FrameSteps.{StandsAt, behind_entry, behind_tick,
 use Rattle.replica_plain.proofs.WorldSteps.{rest_is_replay}
 use Rattle.replica.specs.RealWorlds.{worlds}
 use Rattle.replica.specs.View.{ReplicaView, with_plain, worlds_of}
-use Rattle.drill.specs.Ending.{Catches, HasReplay}
+use Rattle.drill.specs.Ending.{Catches, HasReplay, IsOfView}
 use Rattle.drill.specs.Taking.{HasTaken, IsFine}
 
 -- it stands at its own place
@@ -82,7 +82,7 @@ tick_time {W = W} {O = O} m laws r t valid synced =
 
 pub record TakesHorizon (s : PlainSession) (r : ReplicaView) : Type 0 where
   pub fine : IsFine r (Tick s.horizon)
-  pub replays : HasReplay s (with_plain r (taken (worlds_of r) r.plain (Tick s.horizon)).replica)
+  pub replays : HasReplay s (founding_of r.program) r.id (with_plain r (taken (worlds_of r) r.plain (Tick s.horizon)).replica)
 
 pub takes_horizon
     : (s : PlainSession) (r : ReplicaView) → AreWorlds (worlds_of r) → (replay (founding_of r.program) r.id s.log s.horizon).world ≡ replay_world (worlds_of r) s.log s.horizon
@@ -100,6 +100,8 @@ takes_horizon s r laws same sound catches all =
     record {
       fine = record { none = behind.read };
       replays = record {
+        program = refl;
+        session = refl;
         whole = behind.stands.follows.whole;
         synced = behind.stands.synced;
         seen = sym behind.stands.placed ∙ all;
@@ -146,8 +148,13 @@ at_next s entries place r new entry stand at is same =
     subst (AtPlace s entries (place + 1)) (sym same.is)
     (record { catches = takes.catches; placed = ap (λ (k : ℕ). k + 1) at.placed ∙ sym takes.seen; whole = at.whole; sound = at.sound })
 
-pub has_replay : (s : PlainSession) (r new : ReplicaView) → TakesHorizon s r → HasTaken r (Tick s.horizon) new → HasReplay s new
-has_replay s r new takes same = subst (HasReplay s) (sym same.is) takes.replays
+has_replay : (s : PlainSession) (r new : ReplicaView) → TakesHorizon s r → HasTaken r (Tick s.horizon) new → HasReplay s (founding_of r.program) r.id new
+has_replay s r new takes same = subst (HasReplay s (founding_of r.program) r.id) (sym same.is) takes.replays
+
+-- it is of the program and the session of the one that it was
+of_old : (s : PlainSession) (old r new : ReplicaView) → IsOfView old r → HasReplay s (founding_of r.program) r.id new → HasReplay s (founding_of old.program) old.id new
+of_old s old r new kept replays =
+    subst (λ (p : CheckedView). HasReplay s (founding_of p) old.id new) kept.program (subst (λ (i : List ℕ). HasReplay s (founding_of r.program) i new) kept.id replays)
 
 -- all entries are taken, and then the horizon
 takes_behind
@@ -162,9 +169,10 @@ few_seen s entries place r at =
     omega (arith, at.placed, at.catches.follows.counted)
 
 pub takes_last
-    : (s : PlainSession) (entries : List Entry) (place end horizon : ℕ) (r : ReplicaView) → WorldsStand → ReplaysFold → AtPlace s entries place r → horizon ≡ s.horizon → end ≡ length entries → end ≤ place
-    → IsFine r (Tick horizon) × ((new : ReplicaView) → HasTaken r (Tick horizon) new → HasReplay s new)
-takes_last s entries place end horizon r stand same at is counted behind =
+    : (s : PlainSession) (entries : List Entry) (place end horizon : ℕ) (old r : ReplicaView) → WorldsStand → ReplaysFold → AtPlace s entries place r → horizon ≡ s.horizon → end ≡ length entries → end ≤ place → IsOfView old r
+    → IsFine r (Tick horizon) × ((new : ReplicaView) → HasTaken r (Tick horizon) new → HasReplay s (founding_of old.program) old.id new)
+takes_last s entries place end horizon old r stand same at is counted behind kept =
     let few = few_seen s entries place r at in
     let takes = takes_behind s entries place r stand same at (omega arith) in
-    subst (λ (t : ℕ). IsFine r (Tick t) × ((new : ReplicaView) → HasTaken r (Tick t) new → HasReplay s new)) (sym is) (takes.fine, λ new. has_replay s r new takes)
+    subst (λ (t : ℕ). IsFine r (Tick t) × ((new : ReplicaView) → HasTaken r (Tick t) new → HasReplay s (founding_of old.program) old.id new)) (sym is)
+    (takes.fine, λ new took. of_old s old r new kept (has_replay s r new takes took))

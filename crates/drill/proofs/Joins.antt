@@ -39,7 +39,7 @@ use Rattle.system_plain.proofs.FactsGrow.{base_grows, follows_log_grows}
 use Rattle.system_plain.proofs.Openings.{based_on, begins_for, begins_later}
 use Rattle.system_plain.proofs.Sessions.{Grows, Grows-answer, IsBasedBy, kept_is_based}
 use Rattle.drill.specs.declared.trust.TrustReplay.{TrustReplay}
-use Rattle.drill.specs.Taking.{IsFine, after_frame}
+use Rattle.drill.specs.Taking.{IsFine, Miscounts, after_frame}
 use Rattle.drill.specs.Trust.{AllowsReplay}
 use Rattle.drill.specs.Turns.{MayJoinBy}
 use Rattle.drill.specs.Workers.{IsTrustedReplay}
@@ -137,7 +137,7 @@ counted_if m r last true below taken more less none = absurd cc
 counted_if m r last false true taken more less none = absurd cc
 counted_if m r last false false taken more less none = (grind (arith, nat_tests), grind (arith, nat_tests))
 
-sync_counted
+pub sync_counted
     : {W O : Type 0} (m : Worlds W O) (r : PlainReplica W O) (how : How) (joined last from : ℕ) (base : Option Base) → (taken m (joining r how) (Sync joined last from base)).fault ≡ None
     → (r.acknowledged ≤ last) × (last ≤ published_count r)
 sync_counted m r how joined last from base none =
@@ -175,7 +175,7 @@ module _ (s : PlainSession) (r : ReplicaView) (how : How) (view now seq time las
     (honest : IsHonestBase (worlds_of r) s.log base) (may : MayJoinBy s r how)
     (is : (answer s (request.Join view now (join_want (worlds_of r) r.plain how))).reply ≡ reply.Joined seq time last from base)
     (first : first_cursor view (reply.Joined seq time last from base) ≡ Some cursor)
-    (fine : IsFine (with_plain r (joining r.plain how)) (Sync seq last from base)) where
+    (counted : (r.plain.acknowledged ≤ last) × (last ≤ published_count r.plain)) where
   abbrev pub after_join : PlainSession
   after_join = (answer s (request.Join view now (join_want (worlds_of r) r.plain how))).session
 
@@ -187,12 +187,14 @@ module _ (s : PlainSession) (r : ReplicaView) (how : How) (view now seq time las
 
   began : SyncBegins (worlds_of r) after_join.log from time (taken (worlds_of r) (joining r.plain how) (Sync seq last from base))
   began =
-      let counted = sync_counted (worlds_of r) r.plain how seq last from base fine.none in
       let within = based_within s base sound said.based in
       sync_begins (worlds_of r) laws after_join.log (joining r.plain how) how seq last from time base sound_after.legal refl
       (subst (λ (want : Want). BeginsFor after_join.log want time from base) (sym (want_same (worlds_of r) r.plain how))
       (begins_later s after_join (join_want (worlds_of r) r.plain how) time from base grows within said.here said.begins))
       counted.0 counted.1 (base_grows (worlds_of r) s after_join base grows within honest) (may_join s after_join r how grows may)
+
+  pub joined_fine : IsFine (with_plain r (joining r.plain how)) (Sync seq last from base)
+  joined_fine = record { none = began.fine }
 
   pub joined_works : IsFounding (founding_of r.program) → ReplicaWorks after_join (after_frame (with_plain r (joining r.plain how)) (Sync seq last from base)) cursor
   joined_works program =
@@ -212,3 +214,25 @@ module _ (s : PlainSession) (r : ReplicaView) (how : How) (view now seq time las
         ticked = omega (arith, none);
         next = inl (omega (arith, none, said.horizon, said.later));
       }
+
+tested_above : (a b : ℕ) → nat_lt a b ≡ true → a < b
+tested_above a b is = grind (arith, nat_tests)
+
+tested_within : (a b : ℕ) → nat_lt a b ≡ false → b ≤ a
+tested_within a b is = grind (arith, nat_tests)
+
+-- the Sync has no fault, unless it miscounts
+pub fine_unless
+    : (s : PlainSession) (r : ReplicaView) (how : How) (view now seq time last from : ℕ) (base : Option Base) (cursor : Cursor) → AreWorlds (worlds_of r) → IsSoundSession s
+    → IsSoundSession (answer s (request.Join view now (join_want (worlds_of r) r.plain how))).session → IsHonestBase (worlds_of r) s.log base → MayJoinBy s r how
+    → (answer s (request.Join view now (join_want (worlds_of r) r.plain how))).reply ≡ reply.Joined seq time last from base → first_cursor view (reply.Joined seq time last from base) ≡ Some cursor
+    → (above below : Bool) → nat_lt (published_count r.plain) last ≡ above → nat_lt last r.plain.acknowledged ≡ below
+    → IsFine (with_plain r (joining r.plain how)) (Sync seq last from base) ⊎ Miscounts (with_plain r (joining r.plain how)) (Sync seq last from base)
+fine_unless s r how view now seq time last from base cursor laws sound sound_after honest may is first true below more less =
+    inr (inl (tested_above (published_count r.plain) last more))
+fine_unless s r how view now seq time last from base cursor laws sound sound_after honest may is first false true more less =
+    inr (inr (tested_above last r.plain.acknowledged less))
+fine_unless s r how view now seq time last from base cursor laws sound sound_after honest may is first false false more less =
+    inl
+    (joined_fine s r how view now seq time last from base cursor laws sound sound_after honest may is first
+    (tested_within last r.plain.acknowledged less, tested_within (published_count r.plain) last more))

@@ -1,5 +1,5 @@
 -- What a worker's Join comes to.
-use Rattle.std.proofs.Common.{◌≡◌, ℕ, List, Option, Some, refl, sym, ap, ◌∙◌, subst, arith}
+use Rattle.std.proofs.Common.{◌≡◌, ◌⊎◌, ℕ, nat_lt, List, Option, Some, refl, sym, ap, ◌∙◌, subst, arith}
 use Rattle.tea_base.specs.declared.entry.Entry.{Entry}
 use Rattle.wire_frames.specs.declared.start.Base.{Base}
 use Rattle.wire_frames.specs.declared.start.Want.{Want}
@@ -24,6 +24,7 @@ use Rattle.session_lock.proofs.Histories.{sound_end}
 use Rattle.replica_plain.specs.declared.how.How.{How}
 use Rattle.replica_plain.specs.declared.how.How.TheVariants.{Fresh, Whole, Resume}
 use Rattle.replica_plain.specs.Worlds.{AreWorlds, replay_world}
+use Rattle.replica_plain.specs.PlainReplica.{published_count}
 use Rattle.replica_plain.specs.Calls.{join_frame, join_want, joining}
 use Rattle.replica.specs.RealWorlds.{worlds}
 use Rattle.replica.specs.View.{ReplicaView, with_plain, worlds_of}
@@ -32,11 +33,11 @@ use Rattle.system_plain.proofs.Sessions.{Grows, Grows-legal}
 use Rattle.drill.specs.declared.size.Size.{Size}
 use Rattle.drill.specs.declared.trust.TrustReplay.{TrustReplay}
 use Rattle.drill.specs.declared.worker.Worker.{Worker}
-use Rattle.drill.specs.Taking.{HasTaken, IsFine, after_frame}
+use Rattle.drill.specs.Taking.{HasTaken, IsFine, Miscounts, after_frame}
 use Rattle.drill.specs.Turns.{HasJoined, MayJoinBy, TakesSync}
 use Rattle.drill.specs.Workers.{HasAsked, IsWorker}
 use Rattle.drill.proofs.Asks.{worker_with}
-use Rattle.drill.proofs.Joins.{honest_base, joined_works, joins_with}
+use Rattle.drill.proofs.Joins.{fine_unless, honest_base, joined_works, joins_with, sync_counted}
 use Rattle.drill.proofs.SyncsTaken.{sync_leaves}
 
 -- what the worlds of each program are
@@ -94,11 +95,41 @@ module _ (stands : AllStand) (replays : AllReplay) (gives : ℕ → Type 0) (siz
       let may_then = may_join_later (play w.pass.seen) s r how (Grows-legal (play w.pass.seen) s asked.on.grows asked.sound.legal) may in
       let left = sync_leaves (worlds_of r) r.plain how seq time last from base fine.none in
       record {
-        works = joined_works s r how w.view now seq time last from base cursor laws asked.sound (subst IsSoundSession asked.session sound) honest may_then is first fine tree;
+        works = joined_works s r how w.view now seq time last from base cursor laws asked.sound (subst IsSoundSession asked.session sound) honest may_then is first (sync_counted (worlds_of r) r.plain how seq last from base fine.none) tree;
         events = record { program = refl; id = refl; view = left.view; outbox = left.outbox; acknowledged = left.acknowledged };
         given = left.given;
         base = left.base;
       }
+
+  -- it has no fault, unless it miscounts
+  synced_unless
+      : (seq time last from : ℕ) (base : Option Base) (asked : HasAsked gives size.views shared w.view w.pass after_ask (request.Join w.view now wanted) (Joined seq time last from base))
+      → IsFine (with_plain w.replica (joining w.replica.plain how)) (Sync seq last from base) ⊎ Miscounts (with_plain w.replica (joining w.replica.plain how)) (Sync seq last from base)
+  synced_unless seq time last from base asked =
+      let s = play asked.history in
+      let r = w.replica in
+      let is = sym asked.replies in
+      let said = joins_with s w.view now wanted seq time last from base asked.sound is in
+      let honest = honest_base shared r s base worker.program worker.id laws (replays (founding_of r.program) r.id s.log) asked.trusted said.based in
+      let may_then = may_join_later (play w.pass.seen) s r how (Grows-legal (play w.pass.seen) s asked.on.grows asked.sound.legal) may in
+      fine_unless s r how w.view now seq time last from base (record { view = w.view; joined = seq; after = from; last_tick = 0 }) laws asked.sound (subst IsSoundSession asked.session sound) honest may_then is refl
+      (nat_lt (published_count r.plain) last) (nat_lt last r.plain.acknowledged) refl refl
+
+  counts
+      : (reply : Reply) (frame : ServerFrame) (cursor : Cursor) (asked : HasAsked gives size.views shared w.view w.pass after_ask (request.Join w.view now wanted) reply)
+      → first_cursor w.view reply ≡ Some cursor → join_answer reply ≡ Some frame
+      → IsFine (with_plain w.replica (joining w.replica.plain how)) frame ⊎ Miscounts (with_plain w.replica (joining w.replica.plain how)) frame
+  counts (Joined seq time last from base) frame cursor asked first answers =
+      let is : Sync seq last from base ≡ frame = cc answers in
+      subst (λ (frame : ServerFrame). IsFine (with_plain w.replica (joining w.replica.plain how)) frame ⊎ Miscounts (with_plain w.replica (joining w.replica.plain how)) frame)
+      is (synced_unless seq time last from base asked)
+  counts (Stamped seq time) frame cursor asked first answers = absurd cc
+  counts (Again seq time) frame cursor asked first answers = absurd cc
+  counts (Ticked time) frame cursor asked first answers = absurd cc
+  counts (Left seq time) frame cursor asked first answers = absurd cc
+  counts Kept frame cursor asked first answers = absurd cc
+  counts (Batch entries tick) frame cursor asked first answers = absurd cc
+  counts (Refused refusal) frame cursor asked first answers = absurd cc
 
   -- the frame is the Sync
   takes
@@ -129,6 +160,16 @@ asks_first w asking joins how is kept = record { view = ap (λ (w : Worker). w.v
 
 module _ (gives : ℕ → Type 0) (size : Size) (shared : SharedState TrustReplay) (w asking : Worker) (how : How) (now : ℕ) (reply : Reply) (asks : Asks w asking how)
     (asked : HasAsked gives size.views shared w.view w.pass asking.pass (request.Join w.view now (join_want (worlds_of w.replica) w.replica.plain how)) reply) where
+  -- the frame that answers the Join has no fault, unless it miscounts
+  pub join_counts
+      : (stands : AllStand) (replays : AllReplay) (frame : ServerFrame) (cursor : Cursor) → IsWorker gives size shared w → MayJoinBy (play w.pass.seen) w.replica how
+      → IsWorker gives size shared asking → Some cursor ≡ first_cursor asking.view reply → Some frame ≡ join_answer reply → IsFine asking.replica frame ⊎ Miscounts asking.replica frame
+  join_counts stands replays frame cursor worker may worker_then opened answers =
+      let opens : Some cursor ≡ first_cursor w.view reply = opened ∙ ap (λ (view : ℕ). first_cursor view reply) asks.view in
+      let sound : IsSoundSession (play asking.pass.seen) = sound_end first_session asking.pass.seen worker_then.sound in
+      subst (λ (r : ReplicaView). IsFine r frame ⊎ Miscounts r frame) (sym asks.replica)
+      (counts stands replays gives size shared w asking.pass how now worker sound may reply frame cursor asked (sym opens) (sym answers))
+
   -- the Sync is taken, and its replica works by the new connection
   pub record Enters (new : ReplicaView) (cursor : Cursor) : Type 0 where
     pub joined : HasJoined gives size.views shared w (record asking { replica = new }) how (Some cursor)

@@ -35,6 +35,7 @@ pub mod Rooms
 pub mod Sendings
 pub mod Sends
 pub mod Settlings
+pub mod SyncFaults
 pub mod SyncsTaken
 pub mod Taken
 pub mod TurnLaws

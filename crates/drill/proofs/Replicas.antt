@@ -16,12 +16,11 @@ use Rattle.drill.specs.declared.report.DrillReport.{DrillReport}
 use Rattle.drill.specs.declared.size.Size.{Size}
 use Rattle.drill.specs.declared.trust.TrustReplay.{TrustReplay}
 use Rattle.drill.specs.Doing.{HasBase, loss_interval}
-use Rattle.drill.specs.Drill.{AreBased, AreReplays, HasDrilled, IsReplayOf, drill_id}
+use Rattle.drill.specs.Drill.{AreBased, AreReplays, HasDrilled, drill_id}
 use Rattle.drill.specs.Drilled.{Drilled}
 use Rattle.drill.specs.Drilling.{ComesToEnd, MayRest, numbers_from, rested_of, views_of}
-use Rattle.drill.specs.Ending.{root_total}
+use Rattle.drill.specs.Ending.{HasReplay, root_total}
 use Rattle.drill.specs.Program.{IsDrillProgram}
-use Rattle.drill.specs.Reports as reports
 use Rattle.drill.specs.Reports.{Reports}
 use Rattle.drill.proofs.Drillings.{HasLeft, IsClosed, all_called, all_drilled, all_left, first_view, rest_views, whole}
 
@@ -31,28 +30,10 @@ module _ (gives : ℕ → Type 0) (size : Size) (shared : SharedState TrustRepla
   may_rest_all (one ∷ rest) left = (record { catches = left.0.done.catches; counted = left.0.done.ends.counted }, may_rest_all rest left.1)
 
   -- one replica, by the one that has ended
-  is_reported : (one : Finished) (r : ReplicaView) → HasLeft gives size shared s one → ComesToEnd s (rested_of one) r → reports.IsAtEnd s (arc_value shared.trust.program) shared.id.0 r
-  is_reported one r left comes = record {
-    same_program = comes.kept.program ∙ left.ended.worker.program;
-    same_id = comes.kept.id ∙ left.ended.worker.id;
-    replays = comes.replays;
-  }
-
-  is_replay : (one : Finished) (r : ReplicaView) (view : ℕ) → one.worker.view ≡ view → HasLeft gives size shared s one → ComesToEnd s (rested_of one) r
-      → IsReplayOf s (founding_of (arc_value shared.trust.program)) shared.id.0 view r
-  is_replay one r view is left comes =
-      let told = is_reported one r left comes in record {
-        of_view = comes.kept.view ∙ left.ended.worker.view ∙ is;
-        program = ap founding_of told.same_program;
-        session = told.same_id;
-        whole = comes.replays.whole;
-        synced = comes.replays.synced;
-        seen = comes.replays.seen;
-        world =
-            comes.replays.world
-            ∙ ap (λ (p : CheckedView). (replay (founding_of p) r.id s.log s.horizon).world) told.same_program
-            ∙ ap (λ (i : List ℕ). (replay (founding_of (arc_value shared.trust.program)) i s.log s.horizon).world) told.same_id;
-      }
+  is_replayed : (one : Finished) (r : ReplicaView) → HasLeft gives size shared s one → ComesToEnd s (rested_of one) r → HasReplay s (founding_of (arc_value shared.trust.program)) shared.id.0 r
+  is_replayed one r left comes =
+      subst (λ (i : List ℕ). HasReplay s (founding_of (arc_value shared.trust.program)) i r) left.ended.worker.id
+      (subst (λ (p : CheckedView). HasReplay s (founding_of p) one.worker.replica.id r) left.ended.worker.program comes.replays)
 
   -- below the end of time it has taken the Sync of its newest Join
   was_synced : (synced : Bool) → (synced ≡ false → end_of_time ≤ s.horizon) → s.horizon < end_of_time → synced ≡ true
@@ -66,12 +47,12 @@ module _ (gives : ℕ → Type 0) (size : Size) (shared : SharedState TrustRepla
       let has : HasBase s one.worker.view size.events one.worker.replica.plain.base = left.done.ends.based enough below in
       subst (λ (v : ℕ). HasBase s v size.events r.plain.base) is (subst (HasBase s one.worker.view size.events) (sym (comes.base synced)) has)
 
-  reported_all : (ended : List Finished) (replicas : List ReplicaView) → AllByRecursion (HasLeft gives size shared s) ended → AllZip (ComesToEnd s) (map rested_of ended) replicas
-      → AllByRecursion (reports.IsAtEnd s (arc_value shared.trust.program) shared.id.0) replicas
-  reported_all [] [] left come = tt
-  reported_all [] (r ∷ rs) left come = absurd come
-  reported_all (one ∷ rest) [] left come = tt
-  reported_all (one ∷ rest) (r ∷ rs) left come = (is_reported one r left.0 come.0, reported_all rest rs left.1 come.1)
+  replayed_all : (ended : List Finished) (replicas : List ReplicaView) → AllByRecursion (HasLeft gives size shared s) ended → AllZip (ComesToEnd s) (map rested_of ended) replicas
+      → AllByRecursion (HasReplay s (founding_of (arc_value shared.trust.program)) shared.id.0) replicas
+  replayed_all [] [] left come = tt
+  replayed_all [] (r ∷ rs) left come = absurd come
+  replayed_all (one ∷ rest) [] left come = tt
+  replayed_all (one ∷ rest) (r ∷ rs) left come = (is_replayed one r left.0 come.0, replayed_all rest rs left.1 come.1)
 
   are_replays : (ended : List Finished) (replicas : List ReplicaView) (first count : ℕ) → views_of ended ≡ numbers_from first count → AllByRecursion (HasLeft gives size shared s) ended
       → AllZip (ComesToEnd s) (map rested_of ended) replicas → AreReplays s (founding_of (arc_value shared.trust.program)) shared.id.0 first replicas
@@ -80,7 +61,8 @@ module _ (gives : ℕ → Type 0) (size : Size) (shared : SharedState TrustRepla
   are_replays (one ∷ rest) [] first count views left come = tt
   are_replays (one ∷ rest) (r ∷ rs) first zero views left come = absurd (cc (views))
   are_replays (one ∷ rest) (r ∷ rs) first (suc count) views left come =
-      (is_replay one r first (first_view one rest first count views) left.0 come.0, are_replays rest rs (first + 1) count (rest_views one rest first count views) left.1 come.1)
+      let is : one.worker.view ≡ first = first_view one rest first count views in
+      (come.0.kept.view ∙ left.0.ended.worker.view ∙ is, is_replayed one r left.0 come.0, are_replays rest rs (first + 1) count (rest_views one rest first count views) left.1 come.1)
 
   are_based : (ended : List Finished) (replicas : List ReplicaView) (first count : ℕ) → views_of ended ≡ numbers_from first count → AllByRecursion (HasLeft gives size shared s) ended
       → AllZip (ComesToEnd s) (map rested_of ended) replicas → loss_interval ≤ size.events → s.horizon < end_of_time → AreBased s size.events first replicas
@@ -115,8 +97,8 @@ module _ (gives : ℕ → Type 0) (size : Size) (shared : SharedState TrustRepla
     pub few_replicas : length replicas ≤ most_drill_views
     few_replicas = omega (arith, closed.fits.views, as_many gives size shared s ended replicas 1 size.views closed.views come)
 
-    pub all_reported : All (reports.IsAtEnd s (arc_value shared.trust.program) shared.id.0) replicas
-    all_reported = All-from_recursion (reports.IsAtEnd s (arc_value shared.trust.program) shared.id.0) replicas (reported_all gives size shared s ended replicas left come)
+    pub all_replayed : All (HasReplay s (founding_of (arc_value shared.trust.program)) shared.id.0) replicas
+    all_replayed = All-from_recursion (HasReplay s (founding_of (arc_value shared.trust.program)) shared.id.0) replicas (replayed_all gives size shared s ended replicas left come)
 
     module _ (program : CheckedView) (id : List ℕ) (session : SessionState) (report : DrillReport) (closes : s ≡ session.plain) (same_program : arc_value shared.trust.program ≡ program)
         (same_id : shared.id.0 ≡ id) (is_program : IsDrillProgram (founding_of program)) (is_id : id ≡ drill_id) (told : Reports session program id replicas report) where

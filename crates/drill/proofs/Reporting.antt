@@ -7,7 +7,7 @@ use Rattle.std.proofs.lemmas.List.{take_more}
 use Rattle.std.proofs.lemmas.List.Sums.{sum_by-cons}
 use Rattle.std.proofs.lemmas.List.Elements.{recursion_from_All}
 use Rattle.replica.specs.SessionWorlds.{Snaps}
-use Rattle.model_solved.specs.Founding.{CheckedView, checked_tree, founding_of}
+use Rattle.model_solved.specs.Founding.{CheckedView, Founding, checked_tree, founding_of}
 use Rattle.world_plain.specs.World.{WorldRecord}
 use Rattle.world.specs.Worlds.{field_counts, replay}
 use Rattle.snapshot_codec.specs.Answer.{IsSnapshot}
@@ -16,8 +16,8 @@ use Rattle.reflector_core.specs.SessionState.{SessionState}
 use Rattle.replica.specs.RealWorlds.{worlds}
 use Rattle.replica.specs.View.{ReplicaView, world_part}
 use Rattle.snapshot_codec.specs.Spelling.{world_spelling}
-use Rattle.drill.specs.Ending.{root_total}
-use Rattle.drill.specs.Reports.{IsAtEnd, IsSnapshotOf, Reports, IsWorldSnapshot}
+use Rattle.drill.specs.Ending.{HasReplay, root_total}
+use Rattle.drill.specs.Reports.{IsSnapshotOf, Reports, IsWorldSnapshot}
 
 abbrev replayed : PlainSession → CheckedView → List ℕ → WorldRecord
 replayed s program id = (replay (founding_of program) id s.log s.horizon).world
@@ -28,26 +28,25 @@ pub record IsSnapshotOfReplay (s : PlainSession) (program : CheckedView) (id byt
   pub snapshot : IsSnapshot (field_counts (checked_tree program)) id bytes (replayed s program id)
   pub read : (worlds (founding_of program) id).unsnap bytes ≡ Some (replayed s program id)
 
-world_is : (s : PlainSession) (program : CheckedView) (id : List ℕ) (r : ReplicaView) → IsAtEnd s program id r → r.plain.world ≡ replayed s program id
-world_is s program id r ended =
-    ended.replays.world ∙ ap (λ p. replayed s p r.id) ended.same_program ∙ ap (replayed s program) ended.same_id
+-- a replica of the program and the session has the replay
+abbrev IsReplayed : PlainSession → CheckedView → List ℕ → ReplicaView → Type 0
+IsReplayed s program id r = HasReplay s (founding_of program) id r
 
-snapshot_of_replay : (s : PlainSession) (program : CheckedView) (id : List ℕ) (r : ReplicaView) (bytes : List ℕ) → IsAtEnd s program id r → IsSnapshotOf r bytes → IsSnapshotOfReplay s program id bytes
+snapshot_of_replay : (s : PlainSession) (program : CheckedView) (id : List ℕ) (r : ReplicaView) (bytes : List ℕ) → IsReplayed s program id r → IsSnapshotOf r bytes → IsSnapshotOfReplay s program id bytes
 snapshot_of_replay s program id r bytes ended snaps =
-    let world = world_is s program id r ended in
     record {
-      spelled = snaps.spelled ∙ ap world_spelling world;
-      snapshot = subst (IsSnapshot (field_counts (checked_tree program)) id bytes) world
-          (subst (λ i. IsSnapshot (field_counts (checked_tree program)) i bytes r.plain.world) ended.same_id
-          (subst (λ p. IsSnapshot (field_counts (checked_tree p)) r.id bytes r.plain.world) ended.same_program snaps.snapshot));
-      read = ap (λ i. (worlds (founding_of program) i).unsnap bytes) (sym ended.same_id)
-          ∙ ap (λ p. (worlds (founding_of p) r.id).unsnap bytes) (sym ended.same_program)
-          ∙ snaps.read ∙ ap Some world;
+      spelled = snaps.spelled ∙ ap world_spelling ended.world;
+      snapshot = subst (IsSnapshot (field_counts (checked_tree program)) id bytes) ended.world
+          (subst (λ i. IsSnapshot (field_counts (checked_tree program)) i bytes r.plain.world) ended.session
+          (subst (λ (f : Founding). IsSnapshot (field_counts f.tree) r.id bytes r.plain.world) ended.program snaps.snapshot));
+      read = ap (λ i. (worlds (founding_of program) i).unsnap bytes) (sym ended.session)
+          ∙ ap (λ f. (worlds f r.id).unsnap bytes) (sym ended.program)
+          ∙ snaps.read ∙ ap Some ended.world;
     }
 
 -- so is each snapshot
 snapshots_of_replay
-    : (s : PlainSession) (program : CheckedView) (id : List ℕ) (replicas : List ReplicaView) (snapshots : List (List ℕ)) → AllByRecursion (IsAtEnd s program id) replicas → AllZip IsSnapshotOf replicas snapshots
+    : (s : PlainSession) (program : CheckedView) (id : List ℕ) (replicas : List ReplicaView) (snapshots : List (List ℕ)) → AllByRecursion (IsReplayed s program id) replicas → AllZip IsSnapshotOf replicas snapshots
     → AllByRecursion (IsSnapshotOfReplay s program id) snapshots
 snapshots_of_replay s program id [] [] ended snaps = tt
 snapshots_of_replay s program id [] (bytes ∷ rest) ended snaps = absurd snaps
@@ -93,10 +92,10 @@ first_has P (bytes ∷ rest) first all is =
     subst P same all.0
 
 pub first_of_replay
-    : (s : PlainSession) (program : CheckedView) (id : List ℕ) (replicas : List ReplicaView) (snapshots : List (List ℕ)) (first : List ℕ) → AllZip IsSnapshotOf replicas snapshots → All (IsAtEnd s program id) replicas
+    : (s : PlainSession) (program : CheckedView) (id : List ℕ) (replicas : List ReplicaView) (snapshots : List (List ℕ)) (first : List ℕ) → AllZip IsSnapshotOf replicas snapshots → All (IsReplayed s program id) replicas
     → slice_get snapshots 0 ≡ Some first → IsSnapshotOfReplay s program id first
 first_of_replay s program id replicas snapshots first snaps ended =
-    first_has (IsSnapshotOfReplay s program id) snapshots first (snapshots_of_replay s program id replicas snapshots (recursion_from_All (IsAtEnd s program id) replicas ended) snaps)
+    first_has (IsSnapshotOfReplay s program id) snapshots first (snapshots_of_replay s program id replicas snapshots (recursion_from_All (IsReplayed s program id) replicas ended) snaps)
 
 pub spells_world : (s : PlainSession) (program : CheckedView) (id bytes : List ℕ) → IsSnapshotOfReplay s program id bytes → IsWorldSnapshot (checked_tree program) id bytes
 spells_world s program id bytes is = record { world = replayed s program id; snapshot = is.snapshot }
@@ -112,13 +111,13 @@ all_agree s program id first (bytes ∷ rest) is all =
 
 pub reports
     : (session : SessionState) (program : CheckedView) (id : List ℕ) (replicas : List ReplicaView) (snapshots : List (List ℕ)) (first : List ℕ) (total : ℤ) (agree : ℕ)
-    → AllZip IsSnapshotOf replicas snapshots → All (IsAtEnd session.plain program id) replicas → slice_get snapshots 0 ≡ Some first
+    → AllZip IsSnapshotOf replicas snapshots → All (IsReplayed session.plain program id) replicas → slice_get snapshots 0 ≡ Some first
     → ((w : WorldRecord) → (worlds (founding_of program) id).unsnap first ≡ Some w → total ≡ root_total w) → agree ≡ count_by (λ snapshot. bytes_eq snapshot first) snapshots
     → Reports session program id replicas (record { session = session; replicas = replicas; total = total; agree = agree })
 reports session program id replicas snapshots first total agree snaps ended at totals counted =
     let s = session.plain in
     let of_first = first_of_replay s program id replicas snapshots first snaps ended at in
-    let all = snapshots_of_replay s program id replicas snapshots (recursion_from_All (IsAtEnd s program id) replicas ended) snaps in
+    let all = snapshots_of_replay s program id replicas snapshots (recursion_from_All (IsReplayed s program id) replicas ended) snaps in
     record {
       same_session = refl;
       same_replicas = refl;

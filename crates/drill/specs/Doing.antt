@@ -37,7 +37,8 @@ KeepsFrom time (Some base) = time ≤ base.time
 
 -- it has done the whole; or time has ended, and it has left early
 abbrev pub HasFinished : PlainSession → ℕ → List What → Type 0
-HasFinished s view whole = (done_by view s.log ≡ whole) ⊎ ((end_of_time ≤ s.horizon) × IsCutShort whole (done_by view s.log))
+HasFinished s view whole = (done_by view s.log ≡ whole)
+    ⊎ ((end_of_time ≤ s.horizon) × IsCutShort whole (done_by view s.log))
 
 -- a view offers its snapshot and loses its world at each event whose number is a multiple of this
 abbrev pub loss_interval : ℕ

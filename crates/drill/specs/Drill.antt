@@ -1,11 +1,11 @@
 -- What a drill has come to.
-use Rattle.std.specs.Prelude.{◌≡◌, ◌⊎◌, ◌≤◌, ◌<◌, ℕ, ◌+◌, true, false, List, [], ◌∷◌, ◌++◌, All, length}
+use Rattle.std.specs.Prelude.{◌≡◌, ◌⊎◌, ◌≤◌, ◌<◌, ℕ, ◌+◌, List, [], ◌∷◌, ◌++◌, All, length}
 use Rattle.tea_base.specs.declared.entry.Entry.{Entry}
 use Rattle.std.specs.List.{AllByRecursion}
 use Rattle.byte_fields.specs.Fields.{text_field}
 use Rattle.sha2.specs.Sha256.{sha256}
 use Rattle.tea_base.specs.Limits.{end_of_time}
-use Rattle.model_solved.specs.Founding.{Founding, founding_of}
+use Rattle.model_solved.specs.Founding.{Founding}
 use Rattle.reflector_core.specs.PlainSession.{PlainSession}
 use Rattle.reflector_core.specs.Play.{first_session}
 use Rattle.session_lock.specs.History.{IsSoundThrough, play}
@@ -18,7 +18,7 @@ use Rattle.drill.specs.declared.report.DrillReport.{DrillReport}
 use Rattle.drill.specs.Asking.{IsAskedInDrill}
 use Rattle.drill.specs.Doing.{HasBase, loss_interval}
 use Rattle.drill.specs.Drilled.{Drilled, IsOfDrill}
-use Rattle.drill.specs.Ending.{root_total}
+use Rattle.drill.specs.Ending.{HasReplay, root_total}
 use Rattle.drill.specs.Program.{IsDrillProgram, drill_name, drill_text}
 use Rattle.drill.specs.ViewCalls.{AreCallsOf}
 
@@ -26,20 +26,11 @@ use Rattle.drill.specs.ViewCalls.{AreCallsOf}
 abbrev pub drill_id : List ℕ
 drill_id = sha256 (text_field drill_name ++ drill_text)
 
--- the replica of a view, which has taken its Sync and all entries, and whose world is the replay of the log to the horizon
-pub record IsReplayOf (s : PlainSession) (founding : Founding) (id : List ℕ) (view : ℕ) (r : ReplicaView) : Type 0 where
-  pub of_view : r.plain.view ≡ view
-  pub program : founding_of r.program ≡ founding
-  pub session : r.id ≡ id
-  pub whole : r.plain.broken ≡ false
-  pub synced : r.plain.synced ≡ true
-  pub seen : r.plain.seen ≡ length s.log
-  pub world : r.plain.world ≡ (replay founding id s.log s.horizon).world
-
--- the replicas are those of this view and the next ones, in order
+-- the replicas are those of this view and the next ones, in order, and each has the replay
 abbrev pub AreReplays : PlainSession → Founding → List ℕ → ℕ → List ReplicaView → Type 0
 AreReplays s founding id view [] = Unit {0}
-AreReplays s founding id view (r ∷ replicas) = IsReplayOf s founding id view r × AreReplays s founding id (view + 1) replicas
+AreReplays s founding id view (r ∷ replicas) =
+    (r.plain.view ≡ view) × HasReplay s founding id r × AreReplays s founding id (view + 1) replicas
 
 -- each was made from a base at the last event at which it was lost
 abbrev pub AreBased : PlainSession → ℕ → ℕ → List ReplicaView → Type 0
@@ -53,7 +44,8 @@ pub record PlaysDrill (gives : ℕ → Type 0) (size : Size) (s : PlainSession) 
   pub play : s ≡ play history
   pub sound : IsSoundThrough first_session history
   pub asked : AllByRecursion (IsAskedInDrill gives size.views) history
-  pub calls : (view : ℕ) → IsOfDrill size.views view → AreCallsOf view size.events (exchanges_in first_session history view)
+  pub calls : (view : ℕ) → IsOfDrill size.views view
+      → AreCallsOf view size.events (exchanges_in first_session history view)
 
 -- each entry is of a view of the drill, and the horizon is at most the length of the log beyond 0 or a value of the clock
 pub record HasDrillEntries (gives : ℕ → Type 0) (views : ℕ) (s : PlainSession) : Type 0 where
@@ -69,6 +61,8 @@ pub record HasDrilled (gives : ℕ → Type 0) (size : Size) (report : DrillRepo
   pub drilled : Drilled size.seed size.views size.events report.session.plain.log report.session.plain.horizon
   pub replicas : AreReplays report.session.plain founding drill_id 1 report.replicas
   pub number : length report.replicas ≡ size.views
-  pub total : report.total ≡ root_total (replay founding drill_id report.session.plain.log report.session.plain.horizon).world
+  pub total : report.total ≡ root_total
+      (replay founding drill_id report.session.plain.log report.session.plain.horizon).world
   pub agree : report.agree ≡ size.views
-  pub based : loss_interval ≤ size.events → report.session.plain.horizon < end_of_time → AreBased report.session.plain size.events 1 report.replicas
+  pub based : loss_interval ≤ size.events → report.session.plain.horizon < end_of_time
+      → AreBased report.session.plain size.events 1 report.replicas

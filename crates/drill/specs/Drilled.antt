@@ -48,7 +48,9 @@ done_by view log = map (λ entry. entry.what) (entries_by view log)
 
 -- nothing of it is done, or a first part, and an Exit in place of the rest
 abbrev pub IsCutShort : List What → List What → Type 0
-IsCutShort whole done = (done ≡ []) ⊎ ((part : List What) × (rest : List What) × (part ≢ []) × (rest ≢ []) × (whole ≡ part ++ rest) × (done ≡ part ++ Exit ∷ []))
+IsCutShort whole done = (done ≡ [])
+    ⊎ ((part : List What) × (rest : List What) × (part ≢ []) × (rest ≢ []) × (whole ≡ part ++ rest)
+    × (done ≡ part ++ Exit ∷ []))
 
 -- a view of the drill
 abbrev pub IsOfDrill : ℕ → ℕ → Type 0
@@ -58,4 +60,5 @@ pub record Drilled (seed views events : ℕ) (log : List Entry) (horizon : ℕ) 
   -- below the end of time each view has done all that it does
   pub whole : horizon < end_of_time → (view : ℕ) → IsOfDrill views view → done_by view log ≡ own seed view events
   -- and at the end of time all of it, or less
-  pub cut : end_of_time ≤ horizon → (view : ℕ) → IsOfDrill views view → (done_by view log ≡ own seed view events) ⊎ IsCutShort (own seed view events) (done_by view log)
+  pub cut : end_of_time ≤ horizon → (view : ℕ) → IsOfDrill views view → (done_by view log ≡ own seed view events)
+      ⊎ IsCutShort (own seed view events) (done_by view log)

@@ -38,20 +38,28 @@ abbrev pub views_of : List Finished → List ℕ
 views_of ended = map (λ one. one.worker.view) ended
 
 -- these workers have ended, in order
-pub record HaveEnded (gives : ℕ → Type 0) (size : Size) (shared : SharedState TrustReplay) (workers : List Worker) (ended : List Finished) : Type 0 where
+pub record HaveEnded (gives : ℕ → Type 0) (size : Size) (shared : SharedState TrustReplay) (workers : List Worker)
+    (ended : List Finished) : Type 0 where
   pub each : All (HasEnded gives size shared) ended
   pub views : views_of ended ≡ views_of_workers workers
 
 -- what a worker answers, and what all of them do: without memory nothing is told
-pub record WorkerAnswers (gives : ℕ → Type 0) (size : Size) (shared : SharedState TrustReplay) (w : Worker) {E : Type 0} (answer : Result Finished E) : Type 0 where
+pub record WorkerAnswers (gives : ℕ → Type 0) (size : Size) (shared : SharedState TrustReplay) (w : Worker) {E : Type 0}
+    (answer : Result Finished E) : Type 0 where
   pub told : IfOk answer (λ one. HasEnded gives size shared one × (one.worker.view ≡ w.view))
 
-pub record AllAnswer (gives : ℕ → Type 0) (size : Size) (shared : SharedState TrustReplay) (workers : List Worker) {Z E : Type 0} (answer : Result (Vec Finished Z) E) : Type 0 where
+pub record AllAnswer (gives : ℕ → Type 0) (size : Size) (shared : SharedState TrustReplay) (workers : List Worker)
+    {Z E : Type 0} (answer : Result (Vec Finished Z) E) : Type 0 where
   pub told : IfOk answer (λ ended. HaveEnded gives size shared workers ended.items)
 
 -- the pass that is kept, once so many passes of one caller were split off it
 abbrev pub keeper_after : SharedState TrustReplay → ℕ → PassState
-keeper_after shared made = record (first_pass shared.session first_session) { spare = record { first = made + 1; count = 4294967295 - made } ∷ [] }
+keeper_after shared made = record (first_pass shared.session first_session) {
+  spare = record {
+    first = made + 1;
+    count = 4294967295 - made;
+  } ∷ [];
+}
 
 -- a pass of the session that calls by its view's number
 pub record HasPass (shared : SharedState TrustReplay) (one : Finished) : Type 0 where
@@ -78,5 +86,5 @@ pub record MayRest (s : PlainSession) (rested : Rested) : Type 0 where
 -- it has come to the end of the closed log
 pub record ComesToEnd (s : PlainSession) (old : Rested) (new : ReplicaView) : Type 0 where
   pub kept : IsOfView old.replica new
-  pub replays : HasReplay s new
+  pub replays : HasReplay s (founding_of old.replica.program) old.replica.id new
   pub base : old.is_synced ≡ true → new.plain.base ≡ old.replica.plain.base

@@ -1,8 +1,8 @@
 -- How a replica comes to the end of a closed log.
-use Rattle.std.specs.Prelude.{◌≡◌, ◌≤◌, ℤ, pos, true, false, List, [], ◌∷◌, length}
+use Rattle.std.specs.Prelude.{◌≡◌, ◌≤◌, ℕ, ℤ, pos, true, false, List, [], ◌∷◌, length}
 use Rattle.tea_base.specs.Readings.{last_number}
 use Rattle.reflector_core.specs.PlainSession.{PlainSession}
-use Rattle.model_solved.specs.Founding.{founding_of, IsFounding}
+use Rattle.model_solved.specs.Founding.{Founding, founding_of, IsFounding}
 use Rattle.model_value.specs.Plain.{PlainValue, int}
 use Rattle.world_plain.specs.World.{ObjectRecord, WorldRecord}
 use Rattle.world.specs.Worlds.{replay}
@@ -17,12 +17,14 @@ pub record Catches (s : PlainSession) (r : ReplicaView) : Type 0 where
   pub synced : r.plain.synced ≡ true
   pub within : r.plain.world.time ≤ s.horizon
 
--- it has taken its Sync and all entries, and its world is the replay of the log to the horizon
-pub record HasReplay (s : PlainSession) (r : ReplicaView) : Type 0 where
+-- a replica of this program and session, which has taken its Sync and all entries, and whose world is the replay of the log to the horizon
+pub record HasReplay (s : PlainSession) (founding : Founding) (id : List ℕ) (r : ReplicaView) : Type 0 where
+  pub program : founding_of r.program ≡ founding
+  pub session : r.id ≡ id
   pub whole : r.plain.broken ≡ false
   pub synced : r.plain.synced ≡ true
   pub seen : r.plain.seen ≡ length s.log
-  pub world : r.plain.world ≡ (replay (founding_of r.program) r.id s.log s.horizon).world
+  pub world : r.plain.world ≡ (replay founding id s.log s.horizon).world
 
 -- the log has at least the events of its view that were acknowledged, and no more than it published
 pub record IsCountedBy (s : PlainSession) (r : ReplicaView) : Type 0 where

@@ -5,11 +5,10 @@ use Rattle.model_tree.specs.Tree.{ProgramTree}
 use Rattle.world_plain.specs.World.{WorldRecord}
 use Rattle.world.specs.Worlds.{field_counts, replay}
 use Rattle.snapshot_codec.specs.Answer.{IsSnapshot}
-use Rattle.reflector_core.specs.PlainSession.{PlainSession}
 use Rattle.reflector_core.specs.SessionState.{SessionState}
 use Rattle.replica.specs.View.{ReplicaView, worlds_of}
 use Rattle.drill.specs.declared.report.DrillReport.{DrillReport}
-use Rattle.drill.specs.Ending.{HasReplay, root_total}
+use Rattle.drill.specs.Ending.{root_total}
 
 -- want of memory has not broken it
 pub record IsWhole (r : ReplicaView) : Type 0 where
@@ -26,14 +25,9 @@ pub record IsWorldSnapshot (program : ProgramTree) (id bytes : List ℕ) : Type 
   pub world : WorldRecord
   pub snapshot : IsSnapshot (field_counts program) id bytes world
 
--- a replica of the program and the session has the replay of the log to the horizon
-pub record IsAtEnd (s : PlainSession) (program : CheckedView) (id : List ℕ) (r : ReplicaView) : Type 0 where
-  pub same_program : r.program ≡ program
-  pub same_id : r.id ≡ id
-  pub replays : HasReplay s r
-
 -- the session and the replicas are told as they are, the total is that of the replay of the log to the horizon, and all replicas agree
-pub record Reports (session : SessionState) (program : CheckedView) (id : List ℕ) (replicas : List ReplicaView) (report : DrillReport) : Type 0 where
+pub record Reports (session : SessionState) (program : CheckedView) (id : List ℕ) (replicas : List ReplicaView)
+    (report : DrillReport) : Type 0 where
   pub same_session : report.session ≡ session
   pub same_replicas : report.replicas ≡ replicas
   pub total : report.total ≡ root_total (replay (founding_of program) id session.plain.log session.plain.horizon).world

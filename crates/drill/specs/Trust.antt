@@ -6,7 +6,8 @@ use Rattle.world.specs.Worlds.{replay}
 use Rattle.replica.specs.RealWorlds.{is_at_rest, worlds}
 
 -- The bytes are the snapshot of the replay of the log to this time, which is at most the horizon. Its world is of this time, and at rest.
-pub record AllowsReplay (founding : Founding) (id : List ℕ) (log : List Entry) (horizon time : ℕ) (bytes : List ℕ) : Type 0 where
+pub record AllowsReplay (founding : Founding) (id : List ℕ) (log : List Entry) (horizon time : ℕ)
+    (bytes : List ℕ) : Type 0 where
   pub within : time ≤ horizon
   pub replays : (worlds founding id).unsnap bytes ≡ Some (replay founding id log time).world
   pub timed : (replay founding id log time).world.time ≡ time

@@ -65,7 +65,8 @@ base_after Resume old reply = old
 base_after how old reply = None
 
 -- the Sync of its Join is taken
-pub record TakesSync (s : PlainSession) (old new : ReplicaView) (how : How) (reply : Reply) (cursor : Cursor) : Type 0 where
+pub record TakesSync (s : PlainSession) (old new : ReplicaView) (how : How) (reply : Reply)
+    (cursor : Cursor) : Type 0 where
   pub works : ReplicaWorks s new cursor
   pub events : KeepsEvents old new
   pub given : new.plain.given ≡ new.plain.acknowledged
@@ -77,10 +78,12 @@ EndsJoin s old new how reply None = new ≡ with_plain old (joining old.plain ho
 EndsJoin s old new how reply (Some cursor) = TakesSync s old new how reply cursor
 
 -- it has asked to join
-pub record HasJoined (gives : ℕ → Type 0) (views : ℕ) (shared : SharedState TrustReplay) (before after : Worker) (how : How) (cursor : Option Cursor) : Type 0 where
+pub record HasJoined (gives : ℕ → Type 0) (views : ℕ) (shared : SharedState TrustReplay) (before after : Worker)
+    (how : How) (cursor : Option Cursor) : Type 0 where
   pub now : ℕ
   pub reply : Reply
-  pub asked : HasAsked gives views shared before.view before.pass after.pass (Join before.view now (join_want (worlds_of before.replica) before.replica.plain how)) reply
+  pub asked : HasAsked gives views shared before.view before.pass after.pass
+      (Join before.view now (join_want (worlds_of before.replica) before.replica.plain how)) reply
   pub opened : cursor ≡ first_cursor before.view reply
   pub taken : EndsJoin (play after.pass.seen) before.replica after.replica how reply cursor
 
@@ -93,11 +96,13 @@ pub record HasUnsent (r : ReplicaView) : Type 0 where
   pub synced : r.plain.synced ≡ true
 
 -- it has asked to send it
-pub record HasSentIt (gives : ℕ → Type 0) (views : ℕ) (shared : SharedState TrustReplay) (before after : Worker) (cursor : Cursor) (done : Option ServerFrame) : Type 0 where
+pub record HasSentIt (gives : ℕ → Type 0) (views : ℕ) (shared : SharedState TrustReplay) (before after : Worker)
+    (cursor : Cursor) (done : Option ServerFrame) : Type 0 where
   pub now : ℕ
   pub reply : Reply
   pub unsent : HasUnsent before.replica
-  pub asked : HasAsked gives views shared before.view before.pass after.pass (Send before.view cursor.joined (before.replica.plain.acknowledged + 1) unsent.payload now) reply
+  pub asked : HasAsked gives views shared before.view before.pass after.pass
+      (Send before.view cursor.joined (before.replica.plain.acknowledged + 1) unsent.payload now) reply
   pub answered : done ≡ done_of (before.replica.plain.acknowledged + 1) reply
   pub replica : after.replica ≡ with_plain before.replica (calls.gives before.replica.plain)
 
@@ -105,7 +110,8 @@ pub record HasSentIt (gives : ℕ → Type 0) (views : ℕ) (shared : SharedStat
 pub record HasPublished (before after : Worker) : Type 0 where
   pub low : number_below 100 (word_of before.source) < 100
   pub source : after.source ≡ state_after before.source
-  pub replica : after.replica ≡ with_plain before.replica (publishes before.replica.plain (add_payload (number_below 100 (word_of before.source))))
+  pub replica : after.replica ≡ with_plain before.replica
+      (publishes before.replica.plain (add_payload (number_below 100 (word_of before.source))))
   pub rest : after ≡ record before { source = after.source; replica = after.replica }
 
 -- its connection is of the view's Join as before
@@ -124,11 +130,15 @@ pub record HasTakenMore (gives : ℕ → Type 0) (views : ℕ) (before after : W
 
 -- its pass has made one call, the Pull of the next batch
 abbrev pub HasPulled : ℕ → PassState → PassState → Cursor → Cursor → Bool → Type 0
-HasPulled view before after old new last = FollowedBy (λ calls. calls ≡ exchanges_in first_session before.seen view) (AsksPull old new last) (exchanges_in first_session after.seen view)
+HasPulled view before after old new last =
+    FollowedBy (λ calls. calls ≡ exchanges_in first_session before.seen view) (AsksPull old new last)
+    (exchanges_in first_session after.seen view)
 
 -- its pass has made a Tick, and Pulls up to the end of the log
 abbrev pub HasRead : ℕ → PassState → PassState → Cursor → Cursor → Type 0
-HasRead view before after old new = AfterReading (λ cursor calls. (cursor ≡ old) × (calls ≡ exchanges_in first_session before.seen view)) new (exchanges_in first_session after.seen view)
+HasRead view before after old new =
+    AfterReading (λ cursor calls. (cursor ≡ old) × (calls ≡ exchanges_in first_session before.seen view)) new
+    (exchanges_in first_session after.seen view)
 
 -- the whole log, or as many entries of it as a Pull asks for
 abbrev pub HasCome : PlainSession → ReplicaView → Cursor → Cursor → Bool → Type 0
@@ -136,11 +146,13 @@ HasCome s r old new true = IsCaughtUp s r
 HasCome s r old new false = (old.after + most_pulled < length s.log) × (new.after ≡ old.after + most_pulled)
 
 -- it has offered its snapshot
-pub record HasOffered (gives : ℕ → Type 0) (views : ℕ) (shared : SharedState TrustReplay) (before after : Worker) (cursor : Cursor) : Type 0 where
+pub record HasOffered (gives : ℕ → Type 0) (views : ℕ) (shared : SharedState TrustReplay) (before after : Worker)
+    (cursor : Cursor) : Type 0 where
   pub bytes : List ℕ
   pub reply : Reply
   pub small : length bytes ≤ most_snapshot
-  pub asked : HasAsked gives views shared before.view before.pass after.pass (Offer before.view cursor.joined before.replica.plain.world.time bytes) reply
+  pub asked : HasAsked gives views shared before.view before.pass after.pass
+      (Offer before.view cursor.joined before.replica.plain.world.time bytes) reply
 
 -- ---- between the turns
 
@@ -151,13 +163,15 @@ calls_made w = exchanges_in first_session w.pass.seen w.view
 -- What the view has done, behind so many turns, if nobody but the drill's workers has called. Its last event is not later than its replica's
 -- world.
 pub record IsAtTurn (size : Size) (s : PlainSession) (w : Worker) (cursor : Cursor) (number : ℕ) : Type 0 where
-  pub done : HasDone s.log w.view number (own_turns (number + 1) (drawn_numbers w.source (size.events - number))) (own size.seed w.view size.events)
+  pub done : HasDone s.log w.view number (own_turns (number + 1) (drawn_numbers w.source (size.events - number)))
+      (own size.seed w.view size.events)
   pub here : IsHereBy s.log w.view cursor.joined
   pub late : (number ≡ 0) ⊎ WasSentBy s.log w.view number w.replica.plain.world.time
   pub based : loss_interval ≤ number → HasBase s w.view number w.replica.plain.base
 
 -- It has made so many turns: each event is acknowledged, and its replica is at rest.
-pub record IsWorkerReady (gives : ℕ → Type 0) (size : Size) (shared : SharedState TrustReplay) (w : Worker) (cursor : Cursor) (number : ℕ) : Type 0 where
+pub record IsWorkerReady (gives : ℕ → Type 0) (size : Size) (shared : SharedState TrustReplay) (w : Worker)
+    (cursor : Cursor) (number : ℕ) : Type 0 where
   pub worker : IsWorker gives size shared w
   pub calls : AfterTurns w.view number cursor (calls_made w)
   pub few : entries_used_by (own_calls w.pass) ≤ 1 + 3 * number
@@ -176,7 +190,8 @@ abbrev pub left_behind : Size → Worker → ℕ → List What
 left_behind size w number = own_turns (number + 1) (drawn_numbers w.source (size.events - number))
 
 -- The event with this number is published and not acknowledged; so the worker stands in the turn of this number.
-pub record IsWaiting (gives : ℕ → Type 0) (size : Size) (shared : SharedState TrustReplay) (w : Worker) (number : ℕ) (payload : List ℕ) : Type 0 where
+pub record IsWaiting (gives : ℕ → Type 0) (size : Size) (shared : SharedState TrustReplay) (w : Worker) (number : ℕ)
+    (payload : List ℕ) : Type 0 where
   pub worker : IsWorker gives size shared w
   pub turn : (1 ≤ number) × (number ≤ size.events)
   pub outbox : w.replica.plain.outbox ≡ payload ∷ []
@@ -184,15 +199,18 @@ pub record IsWaiting (gives : ℕ → Type 0) (size : Size) (shared : SharedStat
   pub acknowledged : w.replica.plain.acknowledged + 1 ≡ number
 
 -- it was sent, and its Done was not taken
-pub record Owes (size : Size) (s : PlainSession) (w : Worker) (cursor : Cursor) (number : ℕ) (payload : List ℕ) : Type 0 where
-  pub done : HasDone s.log w.view number (joins_behind number ++ left_behind size w number) (own size.seed w.view size.events)
+pub record Owes (size : Size) (s : PlainSession) (w : Worker) (cursor : Cursor) (number : ℕ)
+    (payload : List ℕ) : Type 0 where
+  pub done : HasDone s.log w.view number (joins_behind number ++ left_behind size w number)
+      (own size.seed w.view size.events)
   pub here : IsHereBy s.log w.view cursor.joined
   pub sent : HasSent s.log w.view number payload
   pub early : WasSentBy s.log w.view number s.horizon
   pub late : (number ≡ 1) ⊎ WasSentBy s.log w.view (number - 1) w.replica.plain.world.time
   pub based : loss_interval ≤ number - 1 → HasBase s w.view (number - 1) w.replica.plain.base
 
-pub record IsOwed (gives : ℕ → Type 0) (size : Size) (shared : SharedState TrustReplay) (w : Worker) (cursor : Cursor) (number : ℕ) (payload : List ℕ) : Type 0 where
+pub record IsOwed (gives : ℕ → Type 0) (size : Size) (shared : SharedState TrustReplay) (w : Worker) (cursor : Cursor)
+    (number : ℕ) (payload : List ℕ) : Type 0 where
   pub waiting : IsWaiting gives size shared w number payload
   pub calls : AfterSend w.view number payload (AfterTurns w.view (number - 1)) cursor (calls_made w)
   pub few : entries_used_by (own_calls w.pass) + 1 ≤ 3 * number
@@ -204,7 +222,8 @@ pub record IsOwed (gives : ℕ → Type 0) (size : Size) (shared : SharedState T
 
 -- The connection is lost. A snapshot is kept that is not older than the event before, where the world is lost too.
 abbrev pub KeepsForJoin : PlainSession → Worker → ℕ → How → Type 0
-KeepsForJoin s w number Fresh = (number % loss_interval ≡ 0) × (time : ℕ) × WasSentBy s.log w.view (number - 1) time × KeepsFrom time s.kept
+KeepsForJoin s w number Fresh = (number % loss_interval ≡ 0) × (time : ℕ) × WasSentBy s.log w.view (number - 1) time
+    × KeepsFrom time s.kept
 KeepsForJoin s w number Whole = ⊥
 KeepsForJoin s w number Resume = loss_interval ≤ number → HasBase s w.view number w.replica.plain.base
 
@@ -213,14 +232,16 @@ abbrev pub LosesWorld : ReplicaView → How → Type 0
 LosesWorld r Fresh = (r.plain.world ≡ (worlds_of r).first) × (r.plain.seen ≡ 0) × (r.plain.synced ≡ false)
 LosesWorld r how = Unit {0}
 
-pub record Loses (size : Size) (s : PlainSession) (w : Worker) (cursor : Cursor) (number : ℕ) (payload : List ℕ) (how : How) : Type 0 where
+pub record Loses (size : Size) (s : PlainSession) (w : Worker) (cursor : Cursor) (number : ℕ) (payload : List ℕ)
+    (how : How) : Type 0 where
   pub done : HasDone s.log w.view number (what.Join ∷ left_behind size w number) (own size.seed w.view size.events)
   pub here : IsHereBy s.log w.view cursor.joined
   pub sent : HasSent s.log w.view number payload
   pub early : WasSentBy s.log w.view number s.horizon
   pub keeps : KeepsForJoin s w number how
 
-pub record IsLost (gives : ℕ → Type 0) (size : Size) (shared : SharedState TrustReplay) (w : Worker) (cursor : Cursor) (number : ℕ) (payload : List ℕ) (how : How) : Type 0 where
+pub record IsLost (gives : ℕ → Type 0) (size : Size) (shared : SharedState TrustReplay) (w : Worker) (cursor : Cursor)
+    (number : ℕ) (payload : List ℕ) (how : How) : Type 0 where
   pub waiting : IsWaiting gives size shared w number payload
   pub calls : AfterDrop w.view number payload (AfterTurns w.view (number - 1)) cursor (calls_made w)
   pub few : entries_used_by (own_calls w.pass) + 1 ≤ 3 * number
@@ -231,14 +252,16 @@ pub record IsLost (gives : ℕ → Type 0) (size : Size) (shared : SharedState T
   pub does : IsDrillHistory gives size.views w.pass.seen → Loses size (play w.pass.seen) w cursor number payload how
 
 -- it has joined again
-pub record Returns (size : Size) (s : PlainSession) (w : Worker) (cursor : Cursor) (number : ℕ) (payload : List ℕ) : Type 0 where
+pub record Returns (size : Size) (s : PlainSession) (w : Worker) (cursor : Cursor) (number : ℕ)
+    (payload : List ℕ) : Type 0 where
   pub done : HasDone s.log w.view number (left_behind size w number) (own size.seed w.view size.events)
   pub here : IsHereBy s.log w.view cursor.joined
   pub sent : HasSent s.log w.view number payload
   pub early : WasSentBy s.log w.view number s.horizon
   pub based : loss_interval ≤ number → HasBase s w.view number w.replica.plain.base
 
-pub record IsBack (gives : ℕ → Type 0) (size : Size) (shared : SharedState TrustReplay) (w : Worker) (cursor : Cursor) (number : ℕ) (payload : List ℕ) : Type 0 where
+pub record IsBack (gives : ℕ → Type 0) (size : Size) (shared : SharedState TrustReplay) (w : Worker) (cursor : Cursor)
+    (number : ℕ) (payload : List ℕ) : Type 0 where
   pub waiting : IsWaiting gives size shared w number payload
   pub calls : AfterRejoin w.view number payload (AfterTurns w.view (number - 1)) cursor (calls_made w)
   pub few : entries_used_by (own_calls w.pass) ≤ 3 * number
@@ -254,7 +277,8 @@ pub record IsSettling (size : Size) (s : PlainSession) (w : Worker) (cursor : Cu
   pub early : WasSentBy s.log w.view number s.horizon
   pub based : loss_interval ≤ number → HasBase s w.view number w.replica.plain.base
 
-pub record IsSettled (gives : ℕ → Type 0) (size : Size) (shared : SharedState TrustReplay) (w : Worker) (cursor : Cursor) (number : ℕ) : Type 0 where
+pub record IsSettled (gives : ℕ → Type 0) (size : Size) (shared : SharedState TrustReplay) (w : Worker)
+    (cursor : Cursor) (number : ℕ) : Type 0 where
   pub worker : IsWorker gives size shared w
   pub turn : 1 ≤ number
   pub calls : AfterEvent w.view number (AfterTurns w.view (number - 1)) cursor (calls_made w)
@@ -284,13 +308,15 @@ MayCatchUp s r true = Catches s r
 MayCatchUp s r false = Unit {0}
 
 -- it was refused, and makes no further turn; its newest Join was not refused, or it was
-pub record HasStopped (gives : ℕ → Type 0) (size : Size) (shared : SharedState TrustReplay) (w : Worker) (cursor : Cursor) (synced : Bool) : Type 0 where
+pub record HasStopped (gives : ℕ → Type 0) (size : Size) (shared : SharedState TrustReplay) (w : Worker)
+    (cursor : Cursor) (synced : Bool) : Type 0 where
   pub worker : IsWorker gives size shared w
   pub few : entries_used_by (own_calls w.pass) ≤ 1 + 3 * size.events
   pub connection : cursor.view ≡ w.view
   pub catches : MayCatchUp (play w.pass.seen) w.replica synced
   pub stops : IsDrillHistory gives size.views w.pass.seen → LeavesUndone size (play w.pass.seen) w cursor.joined
-  pub calls : IsDrillHistory gives size.views w.pass.seen → (made : ℕ) × (made < size.events) × AfterRefusal w.view (made + 1) (AfterTurns w.view made) cursor (calls_made w)
+  pub calls : IsDrillHistory gives size.views w.pass.seen → (made : ℕ) × (made < size.events)
+      × AfterRefusal w.view (made + 1) (AfterTurns w.view made) cursor (calls_made w)
 
 -- it has settled its event again, or was refused
 abbrev pub HasResent : (ℕ → Type 0) → Size → SharedState TrustReplay → Worker → Cursor → ℕ → Course → Type 0
@@ -311,11 +337,14 @@ pub record Ends (size : Size) (s : PlainSession) (w : Worker) : Type 0 where
   pub based : loss_interval ≤ size.events → s.horizon < end_of_time → HasBase s w.view size.events w.replica.plain.base
 
 -- it has ended
-pub record HasEnded (gives : ℕ → Type 0) (size : Size) (shared : SharedState TrustReplay) (one : Finished) : Type 0 where
+pub record HasEnded (gives : ℕ → Type 0) (size : Size) (shared : SharedState TrustReplay)
+    (one : Finished) : Type 0 where
   pub worker : IsWorker gives size shared one.worker
   pub few : entries_used_by (own_calls one.worker.pass) ≤ most_asked size.events
   pub catches : MayCatchUp (play one.worker.pass.seen) one.worker.replica one.is_synced
   pub ends : IsDrillHistory gives size.views one.worker.pass.seen → Ends size (play one.worker.pass.seen) one.worker
-  pub calls : IsDrillHistory gives size.views one.worker.pass.seen → AreCallsOf one.worker.view size.events (calls_made one.worker)
+  pub calls : IsDrillHistory gives size.views one.worker.pass.seen
+      → AreCallsOf one.worker.view size.events (calls_made one.worker)
   -- its newest Join is refused at the end of time alone
-  pub late : IsDrillHistory gives size.views one.worker.pass.seen → one.is_synced ≡ false → end_of_time ≤ (play one.worker.pass.seen).horizon
+  pub late : IsDrillHistory gives size.views one.worker.pass.seen → one.is_synced ≡ false
+      → end_of_time ≤ (play one.worker.pass.seen).horizon

@@ -25,7 +25,8 @@ use Rattle.drill.specs.Trust.{AllowsReplay}
 
 -- what the drill's session keeps is the snapshot of a replay
 abbrev pub IsTrustedReplay : SharedState TrustReplay → PlainSession → Type 0
-IsTrustedReplay shared s = IsTrusted (λ trust id log horizon time bytes. AllowsReplay (founding_of (arc_value trust.program)) id.0 log horizon time bytes) shared.trust shared.id s
+IsTrustedReplay shared s = IsTrusted (λ trust id log horizon time bytes.
+    AllowsReplay (founding_of (arc_value trust.program)) id.0 log horizon time bytes) shared.trust shared.id s
 
 -- Its pass is one of the drill's session, and calls by the view's number, as the view may. Its replica is the view's.
 pub record IsWorker (gives : ℕ → Type 0) (size : Size) (shared : SharedState TrustReplay) (w : Worker) : Type 0 where
@@ -51,7 +52,8 @@ pub record HistoryGoesOn (gives : ℕ → Type 0) (views view : ℕ) (before now
   pub apart : IsDrillHistory gives views now → entries_by view (play now).log ≡ entries_by view (play before).log
 
 -- The view's worker has asked this, and was replied this: the session had gone on to a history, and answered.
-pub record HasAsked (gives : ℕ → Type 0) (views : ℕ) (shared : SharedState TrustReplay) (view : ℕ) (before after : PassState) (request : Request) (reply : Reply) : Type 0 where
+pub record HasAsked (gives : ℕ → Type 0) (views : ℕ) (shared : SharedState TrustReplay) (view : ℕ)
+    (before after : PassState) (request : Request) (reply : Reply) : Type 0 where
   pub history : List Item
   pub on : HistoryGoesOn gives views view before.seen history
   pub sound : IsSoundSession (play history)
@@ -60,7 +62,8 @@ pub record HasAsked (gives : ℕ → Type 0) (views : ℕ) (shared : SharedState
   pub session : play after.seen ≡ (answer (play history) request).session
   pub replies : reply ≡ (answer (play history) request).reply
   pub own : own_calls after ≡ own_calls before ++ Did view request ∷ []
-  pub exchanged : exchanges_in first_session after.seen view ≡ exchanges_in first_session before.seen view ++ Answered request reply ∷ []
+  pub exchanged : exchanges_in first_session after.seen view ≡ exchanges_in first_session before.seen view
+      ++ Answered request reply ∷ []
   pub first : IsDrillHistory gives views after.seen → IsDrillHistory gives views history
 
 -- The view's worker has called, and put nothing into the log.

@@ -17,7 +17,7 @@ use crate::program::{NAME, PROGRAM, drill_program};
 use crate::report::{DrillReport, Replicas};
 use crate::size::Size;
 use crate::trust::TrustReplay;
-use crate::worker::{Hall, Worker};
+use crate::worker::{Service, Worker};
 use model_solved::{Checked, checked_crosses_threads};
 use model_value::Value;
 use reflector_core::{NoKeeper, Session};
@@ -39,7 +39,8 @@ fn with_last(
     ended: Result<Vec<Finished>, WantOfMemory>,
     last: Result<Finished, WantOfMemory>,
 ) -> Result<Vec<Finished>, WantOfMemory>
-    ensures { IfOk result (λ all. IsOkAnd ended (λ before. IsOkAnd last (λ one. all.items ≡ before.items ++ one ∷ []))) }
+    ensures { IfOk result (λ all.
+        IsOkAnd ended (λ before. IsOkAnd last (λ one. all.items ≡ before.items ++ one ∷ []))) }
 {
     let (mut ended, last) = (ended?, last?);
     ended.push(last)?;
@@ -49,39 +50,42 @@ fn with_last(
 /// Has a worker work in a thread beside all others.
 #[cycle(work_all)]
 fn work_beside<C: Clock + Sync, G: Gate + Sync, R: Threads + Wait + Sync>(
-    hall: &Hall<'_, C, G, R>,
+    service: &Service<'_, C, G, R>,
     worker: Worker,
     others: Vec<Worker>,
 ) -> (
     Result<Finished, WantOfMemory>,
     Result<Vec<Finished>, WantOfMemory>,
 )
-    requires size { IsOfSize hall.now.size }
-    requires worker { IsFirst (C.gives hall.now.clock.now) hall.now.size hall.now.shared.now worker }
-    requires others { All (IsFirst (C.gives hall.now.clock.now) hall.now.size hall.now.shared.now) others.items }
-    ensures worker { WorkerAnswers (C.gives hall.now.clock.now) hall.now.size hall.now.shared.now worker result.0 }
-    ensures others { AllAnswer (C.gives hall.now.clock.now) hall.now.size hall.now.shared.now others.items result.1 }
+    requires size { IsOfSize service.now.size }
+    requires worker { IsFirst (C.gives service.now.clock.now) service.now.size service.now.shared.now worker }
+    requires others { All (IsFirst (C.gives service.now.clock.now) service.now.size service.now.shared.now)
+        others.items }
+    ensures worker { WorkerAnswers (C.gives service.now.clock.now) service.now.size service.now.shared.now worker
+        result.0 }
+    ensures others { AllAnswer (C.gives service.now.clock.now) service.now.size service.now.shared.now others.items
+        result.1 }
 {
-    checked_crosses_threads();
-    replica_crosses_threads();
-    session_crosses_threads::<TrustReplay, NoKeeper>();
-    pass_crosses_threads::<NoKeeper>();
-    // Each thread makes a hall of its own: of a closure that captures one whole, what it ensures is not known here.
-    let Hall {
+    checked_crosses_threads(); // for the prover
+    replica_crosses_threads(); // for the prover
+    session_crosses_threads::<TrustReplay, NoKeeper>(); // for the prover
+    pass_crosses_threads::<NoKeeper>(); // for the prover
+    // Each thread makes a service of its own: of a closure that captures one whole, what it ensures is not known here.
+    let Service {
         rt,
         alloc,
         shared,
         size,
         clock,
         gate,
-    } = *hall;
+    } = *service;
     join(
         rt,
         || -> Result<Finished, WantOfMemory>
             requires { IsSync R.row × IsOfSize size × IsFirst (C.gives clock.now) size shared.now worker }
             ensures { WorkerAnswers (C.gives clock.entry.now) size shared.entry.now worker result }
         {
-            worker.work(&Hall {
+            worker.work(&Service {
                 rt,
                 alloc,
                 shared,
@@ -94,7 +98,7 @@ fn work_beside<C: Clock + Sync, G: Gate + Sync, R: Threads + Wait + Sync>(
             requires { IsSync R.row × IsOfSize size × All (IsFirst (C.gives clock.now) size shared.now) others.items }
             ensures { AllAnswer (C.gives clock.entry.now) size shared.entry.now others.items result }
         {
-            let hall = Hall {
+            let service = Service {
                 rt,
                 alloc,
                 shared,
@@ -102,7 +106,7 @@ fn work_beside<C: Clock + Sync, G: Gate + Sync, R: Threads + Wait + Sync>(
                 clock,
                 gate,
             };
-            work_all(&hall, others)
+            work_all(&service, others)
         },
     )
 }
@@ -110,17 +114,19 @@ fn work_beside<C: Clock + Sync, G: Gate + Sync, R: Threads + Wait + Sync>(
 /// Has all workers work, each in a thread beside those before it.
 #[cycle(work_all)]
 fn work_all<C: Clock + Sync, G: Gate + Sync, R: Threads + Wait + Sync>(
-    hall: &Hall<'_, C, G, R>,
+    service: &Service<'_, C, G, R>,
     mut workers: Vec<Worker>,
 ) -> Result<Vec<Finished>, WantOfMemory>
-    requires size { IsOfSize hall.now.size }
-    requires first { All (IsFirst (C.gives hall.now.clock.now) hall.now.size hall.now.shared.now) workers.items }
-    ensures { IfOk result (λ ended. HaveEnded (C.gives hall.now.clock.now) hall.now.size hall.now.shared.now workers.items ended.items) }
+    requires size { IsOfSize service.now.size }
+    requires first { All (IsFirst (C.gives service.now.clock.now) service.now.size service.now.shared.now)
+        workers.items }
+    ensures { IfOk result (λ ended.
+        HaveEnded (C.gives service.now.clock.now) service.now.size service.now.shared.now workers.items ended.items) }
 {
     let Some(worker) = workers.pop() else {
-        return Ok(Vec::new(hall.alloc));
+        return Ok(Vec::new(service.alloc));
     };
-    let (last, ended) = work_beside(hall, worker, workers);
+    let (last, ended) = work_beside(service, worker, workers);
     with_last(ended, last)
 }
 
@@ -163,27 +169,28 @@ fn source_of(seed: u32, place: u32) -> Source64
 
 /// The workers, by their views. The pass of each is split off the one that is kept.
 fn make_workers<C: Clock, G, R: Wait>(
-    hall: &Hall<'_, C, G, R>,
+    service: &Service<'_, C, G, R>,
     prepared: &DrillSession,
     keeper: &mut Pass,
 ) -> Result<Vec<Worker>, WantOfMemory>
     requires prepared { IsDrillSession prepared.now }
-    requires shared { hall.now.shared.now ≡ prepared.now.shared }
-    requires size { IsOfSize hall.now.size }
-    requires keeper { keeper.old ≡ first_pass hall.now.shared.now.session first_session }
-    ensures first { IfOk result (λ workers. All (IsFirst (C.gives hall.now.clock.now) hall.now.size hall.now.shared.now) workers.items) }
-    ensures views { IfOk result (λ workers. views_of_workers workers.items ≡ numbers_from 1 hall.now.size.views) }
-    ensures keeper { OnOk result (keeper.new ≡ keeper_after hall.now.shared.now hall.now.size.views) }
+    requires shared { service.now.shared.now ≡ prepared.now.shared }
+    requires size { IsOfSize service.now.size }
+    requires keeper { keeper.old ≡ first_pass service.now.shared.now.session first_session }
+    ensures first { IfOk result (λ workers.
+        All (IsFirst (C.gives service.now.clock.now) service.now.size service.now.shared.now) workers.items) }
+    ensures views { IfOk result (λ workers. views_of_workers workers.items ≡ numbers_from 1 service.now.size.views) }
+    ensures keeper { OnOk result (keeper.new ≡ keeper_after service.now.shared.now service.now.size.views) }
 {
-    let size = hall.size;
-    let mut workers = Vec::new(hall.alloc);
+    let size = service.size;
+    let mut workers = Vec::new(service.alloc);
     for made in 0..size.views {
         let view = made + 1;
         workers.push(Worker {
             view,
-            replica: Replica::found(hall.alloc, prepared.program.clone()?, prepared.id, view)?,
+            replica: Replica::found(service.alloc, prepared.program.clone()?, prepared.id, view)?,
             source: source_of(size.seed, made),
-            pass: hall.shared.split(keeper, 0)?,
+            pass: service.shared.split(keeper, 0)?,
         })?;
     }
     Ok(workers)
@@ -263,7 +270,7 @@ pub fn drill<C: Clock + Sync, G: Gate + Sync, R: Threads + Wait + Sync>(
     ensures { IfOk result (λ report. HasDrilled (C.gives clock.now) size report) }
 {
     let (prepared, mut keeper) = prepare(alloc)?;
-    let hall = Hall {
+    let service = Service {
         rt,
         alloc,
         shared: &prepared.shared,
@@ -271,8 +278,8 @@ pub fn drill<C: Clock + Sync, G: Gate + Sync, R: Threads + Wait + Sync>(
         clock,
         gate,
     };
-    let workers = make_workers(&hall, &prepared, &mut keeper)?;
-    let ended = work_all(&hall, workers)?;
+    let workers = make_workers(&service, &prepared, &mut keeper)?;
+    let ended = work_all(&service, workers)?;
     let rested = merge_all(alloc, &prepared.shared, &mut keeper, ended)?;
     let DrillSession {
         program,

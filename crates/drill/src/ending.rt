@@ -6,7 +6,7 @@ ghost use Rattle.world_plain.specs.World.{WorldRecord, world_record};
 ghost use Rattle.replica.specs.RealWorlds.{worlds};
 ghost use Rattle.run_steps.specs.Limits.{most_drill_views};
 ghost use Rattle.drill.specs.Ending.{Catches, HasReplay, IsCountedBy, IsOfView, root_total};
-ghost use Rattle.drill.specs.Reports.{IsAtEnd, IsSnapshotOf, IsWhole, Reports, IsWorldSnapshot};
+ghost use Rattle.drill.specs.Reports.{IsSnapshotOf, IsWhole, Reports, IsWorldSnapshot};
 
 use crate::report::{DrillReport, Replicas};
 use crate::taking::take_fine;
@@ -29,9 +29,9 @@ pub fn join_closed(replica: &mut Replica, session: &Session) -> Result<(), WantO
     ensures catches { OnOk result (Catches session.now.plain replica.new) }
     ensures kept { OnOk result (IsOfView replica.old replica.new) }
 {
-    worlds_stand();
+    worlds_stand(); // for the prover
     // What is so of every session is told by this call.
-    let _horizon = session.horizon();
+    let _horizon = session.horizon(); // for the prover
     let ClientFrame::Join { view, .. } = replica.join(How::Whole) else {
         unreachable!()
     };
@@ -50,7 +50,7 @@ fn log_entry(log: &Log, place: u32) -> Result<Entry, WantOfMemory>
     ensures { IfOk result (λ entry. slice_get log.now.entries place ≡ Some entry) }
 {
     // A log has fewer than 2^32 entries, which this call tells.
-    let _len = log.len();
+    let _len = log.len(); // for the prover
     match log.get(place + 1) {
         Ok(entry) => Ok(entry),
         Err(GetRefusal::WantOfMemory) => Err(WantOfMemory),
@@ -61,12 +61,13 @@ fn log_entry(log: &Log, place: u32) -> Result<Entry, WantOfMemory>
 /// A replica takes the rest of the closed log, and the final horizon. Fails for want of memory alone.
 pub fn take_rest(replica: &mut Replica, session: &Session) -> Result<(), WantOfMemory>
     requires { Catches session.now.plain replica.old }
-    ensures replays { OnOk result (HasReplay session.now.plain replica.new) }
+    ensures replays { OnOk result
+        (HasReplay session.now.plain (founding_of replica.old.program) replica.old.id replica.new) }
     ensures kept { OnOk result (IsOfView replica.old replica.new) }
     ensures base { OnOk result (replica.new.plain.base ≡ replica.old.plain.base) }
 {
-    worlds_stand();
-    worlds_replay();
+    worlds_stand(); // for the prover
+    worlds_replay(); // for the prover
     let horizon = session.horizon();
     let log = session.log();
     for place in replica.seen()..log.len() {
@@ -114,7 +115,8 @@ fn total_of(
     snapshot: &Blob,
 ) -> Result<i64, WantOfMemory>
     requires { IsWorldSnapshot (checked_tree program.now) id.now.0 snapshot.now }
-    ensures { IfOk result (λ total. (w : WorldRecord) → (worlds (founding_of program.now) id.now.0).unsnap snapshot.now ≡ Some w → total ≡ root_total w) }
+    ensures { IfOk result (λ total. (w : WorldRecord) → (worlds (founding_of program.now) id.now.0).unsnap snapshot.now
+        ≡ Some w → total ≡ root_total w) }
 {
     match unsnap(alloc, program, id, snapshot.bytes()) {
         Ok(world) => Ok(total_in(&world)),
@@ -147,7 +149,7 @@ pub fn report(
 ) -> Result<DrillReport, WantOfMemory>
     requires some { 0 < length replicas }
     requires few { length replicas ≤ most_drill_views }
-    requires ended { All (IsAtEnd session.plain program.now id.now.0) replicas }
+    requires ended { All (HasReplay session.plain (founding_of program.now) id.now.0) replicas }
     ensures { IfOk result (λ report. Reports session program.now id.now.0 replicas report) }
 {
     let snapshots = snapshots(alloc, &replicas)?;

@@ -9,5 +9,6 @@ use tea_io::Clock;
 /// length of the log beyond 0 or a value that the clock may give.
 pub fn drills_are_sound<C: Clock>(clock: &C)
     ensures sound { (size : DrillSize) (s : PlainSession) → PlaysDrill (C.gives clock.now) size s → IsSoundSession s }
-    ensures entries { (size : DrillSize) (s : PlainSession) → PlaysDrill (C.gives clock.now) size s → HasDrillEntries (C.gives clock.now) size.views s }
+    ensures entries { (size : DrillSize) (s : PlainSession) → PlaysDrill (C.gives clock.now) size s
+        → HasDrillEntries (C.gives clock.now) size.views s }
 {}

@@ -20,8 +20,8 @@ pub const PROGRAM: &[u8] =
 pub fn drill_program(alloc: Global) -> Result<Checked, WantOfMemory>
     ensures { IfOk result (λ checked. IsDrillProgram (founding_of checked)) }
 {
-    one_tree();
-    one_reading();
+    one_tree(); // for the prover
+    one_reading(); // for the prover
     let program = match parse(alloc, PROGRAM) {
         Ok(program) => program,
         Err(LangFault::WantOfMemory) => return Err(WantOfMemory),

@@ -1,7 +1,8 @@
 //! Frames that a replica takes.
-ghost use Rattle.std.specs.Prelude.{OnOk};
+ghost use Rattle.std.specs.Prelude.{◌≡◌, ◌⊎◌, OnOk, Some};
 ghost use Rattle.replica_plain.specs.Taking.{IsTimely};
-ghost use Rattle.drill.specs.Taking.{AreFine, HasTaken, HasTakenAll, IsFine};
+ghost use Rattle.replica_plain.specs.declared.how.How.{How};
+ghost use Rattle.drill.specs.Taking.{AreFine, HasTaken, HasTakenAll, IsFine, Miscounts};
 
 use replica::Replica;
 use replica_plain::ReplicaFault;
@@ -37,15 +38,25 @@ pub fn take_all(replica: &mut Replica, frames: &[ServerFrame]) -> Result<(), Wan
     Ok(())
 }
 
-/// A replica takes the answer to its Join. In a drill it has no fault, since nobody but its worker calls for its view; else memory counts as
-/// wanted.
+/// A replica takes the answer to its Join. Its one fault may be that it miscounts: it knows of more events of the view than its worker
+/// published, or of fewer than were acknowledged. This comes only where somebody else calls for the view. Nobody does in a drill, but that is
+/// known of the whole history alone, once all workers have ended. Till then it counts as want of memory.
 pub fn take_sync(replica: &mut Replica, frame: &ServerFrame) -> Result<(), WantOfMemory>
     requires timely { IsTimely frame.now }
+    requires awaited { (how : How) × (replica.old.plain.awaited ≡ Some how) }
+    requires fine { IsFine replica.old frame.now ⊎ Miscounts replica.old frame.now }
     ensures fine { OnOk result (IsFine replica.old frame.now) }
     ensures taken { OnOk result (HasTaken replica.old frame.now replica.new) }
 {
     match replica.take(frame) {
         Ok(()) => Ok(()),
-        Err(_) => Err(WantOfMemory),
+        Err(ReplicaFault::WantOfMemory) => Err(WantOfMemory),
+        // It miscounts.
+        Err(ReplicaFault::OutOfOrder { .. }) => Err(WantOfMemory),
+        Err(ReplicaFault::Unasked) => unreachable!(),
+        Err(ReplicaFault::Back { .. }) => unreachable!(),
+        Err(ReplicaFault::BadBase) => unreachable!(),
+        Err(ReplicaFault::Broken) => unreachable!(),
+        Err(ReplicaFault::Refused { .. }) => unreachable!(),
     }
 }

@@ -16,7 +16,9 @@ impl Trust for TrustReplay {
     ghost use Rattle.drill.specs.Trust.{AllowsReplay};
     ghost use Rattle.drill.specs.Replays.{allows_stays};
 
-    ghost allows = { λ trust id log horizon time bytes. AllowsReplay (founding_of (arc_value trust.program)) id.0 log horizon time bytes };
+    ghost allows = { λ trust id log horizon time bytes.
+        AllowsReplay (founding_of (arc_value trust.program)) id.0 log horizon time bytes };
 
-    ghost stays = { λ trust id s request time bytes sound after allowed. allows_stays (founding_of (arc_value trust.program)) id.0 s request time bytes allowed };
+    ghost stays = { λ trust id s request time bytes sound after allowed.
+        allows_stays (founding_of (arc_value trust.program)) id.0 s request time bytes allowed };
 }

@@ -10,7 +10,7 @@ ghost use Rattle.drill.specs.Workers.{ChangesPass, HasAsked, IsFirst, IsWorker};
 
 use crate::finished::{Course, Finished};
 use crate::taking::take_fine;
-use crate::worker::{Hall, Worker};
+use crate::worker::{Service, Worker};
 use join_sync::Cursor;
 use reflector_core::Request;
 use replica_plain::How;
@@ -29,21 +29,22 @@ impl Worker {
     /// Joins, makes all its turns, and leaves.
     pub fn work<C: Clock, G: Gate, R: Wait>(
         mut self,
-        hall: &Hall<'_, C, G, R>,
+        service: &Service<'_, C, G, R>,
     ) -> Result<Finished, WantOfMemory>
-        requires size { IsOfSize hall.now.size }
-        requires first { IsFirst (C.gives hall.now.clock.now) hall.now.size hall.now.shared.now self }
-        ensures ended { IfOk result (λ one. HasEnded (C.gives hall.now.clock.now) hall.now.size hall.now.shared.now one) }
+        requires size { IsOfSize service.now.size }
+        requires first { IsFirst (C.gives service.now.clock.now) service.now.size service.now.shared.now self }
+        ensures ended { IfOk result (λ one.
+            HasEnded (C.gives service.now.clock.now) service.now.size service.now.shared.now one) }
         ensures view { IfOk result (λ one. one.worker.view ≡ self.view) }
     {
-        let Some(mut cursor) = self.join(hall, How::Fresh)? else {
+        let Some(mut cursor) = self.join(service, How::Fresh)? else {
             return Ok(Finished {
                 worker: self,
                 is_synced: false,
             });
         };
-        let course = self.make_turns(hall, &mut cursor)?;
-        self.leave(hall, &cursor)?;
+        let course = self.make_turns(service, &mut cursor)?;
+        self.leave(service, &cursor)?;
         Ok(Finished {
             worker: self,
             is_synced: course != Course::JoinRefused,
@@ -53,17 +54,20 @@ impl Worker {
     /// Makes all turns, up to one in which it is refused.
     fn make_turns<C: Clock, G: Gate, R: Wait>(
         &mut self,
-        hall: &Hall<'_, C, G, R>,
+        service: &Service<'_, C, G, R>,
         cursor: &mut Cursor,
     ) -> Result<Course, WantOfMemory>
-        requires size { IsOfSize hall.now.size }
-        requires ready { IsWorkerReady (C.gives hall.now.clock.now) hall.now.size hall.now.shared.now self.old cursor.old 0 }
+        requires size { IsOfSize service.now.size }
+        requires ready { IsWorkerReady (C.gives service.now.clock.now) service.now.size service.now.shared.now self.old
+            cursor.old 0 }
         ensures view { self.new.view ≡ self.old.view }
-        ensures made { IfOk result (λ course. HasMade (C.gives hall.now.clock.now) hall.now.size hall.now.shared.now self.new cursor.new hall.now.size.events course) }
+        ensures made { IfOk result (λ course.
+            HasMade (C.gives service.now.clock.now) service.now.size service.now.shared.now self.new cursor.new
+            service.now.size.events course) }
     {
-        for turn in 1..=hall.size.events {
-            hall.gate.pass(self.view - 1, turn);
-            match self.make_turn(hall, cursor, turn)? {
+        for turn in 1..=service.size.events {
+            service.gate.pass(self.view - 1, turn);
+            match self.make_turn(service, cursor, turn)? {
                 Course::Whole => {}
                 refused => return Ok(refused),
             }
@@ -74,44 +78,51 @@ impl Worker {
     /// Publishes and sends one event, and comes to the end of the log.
     fn make_turn<C: Clock, G, R: Wait>(
         &mut self,
-        hall: &Hall<'_, C, G, R>,
+        service: &Service<'_, C, G, R>,
         cursor: &mut Cursor,
         turn: u32,
     ) -> Result<Course, WantOfMemory>
-        requires size { IsOfSize hall.now.size }
-        requires turn { (1 ≤ turn) × (turn ≤ hall.now.size.events) }
-        requires ready { IsWorkerReady (C.gives hall.now.clock.now) hall.now.size hall.now.shared.now self.old cursor.old (turn - 1) }
+        requires size { IsOfSize service.now.size }
+        requires turn { (1 ≤ turn) × (turn ≤ service.now.size.events) }
+        requires ready { IsWorkerReady (C.gives service.now.clock.now) service.now.size service.now.shared.now self.old
+            cursor.old (turn - 1) }
         ensures view { self.new.view ≡ self.old.view }
-        ensures made { IfOk result (λ course. HasMade (C.gives hall.now.clock.now) hall.now.size hall.now.shared.now self.new cursor.new turn course) }
+        ensures made { IfOk result (λ course.
+            HasMade (C.gives service.now.clock.now) service.now.size service.now.shared.now self.new cursor.new turn
+            course) }
     {
-        self.publish(hall)?;
-        let Some(done) = self.send(hall, cursor)? else {
+        self.publish(service)?;
+        let Some(done) = self.send(service, cursor)? else {
             return Ok(Course::SendRefused);
         };
-        match self.settle(hall, cursor, turn, &done)? {
+        match self.settle(service, cursor, turn, &done)? {
             Course::Whole => {}
             refused => return Ok(refused),
         }
-        self.catch_up(hall, cursor)?;
+        self.catch_up(service, cursor)?;
         Ok(Course::Whole)
     }
 
     /// Takes the Done of its event. At a multiple of `DROP_INTERVAL` it drops its connection instead.
     fn settle<C: Clock, G, R: Wait>(
         &mut self,
-        hall: &Hall<'_, C, G, R>,
+        service: &Service<'_, C, G, R>,
         cursor: &mut Cursor,
         turn: u32,
         done: &ServerFrame,
     ) -> Result<Course, WantOfMemory>
-        requires size { IsOfSize hall.now.size }
-        requires owed { (payload : List ℕ) × IsOwed (C.gives hall.now.clock.now) hall.now.size hall.now.shared.now self.old cursor.old turn payload }
+        requires size { IsOfSize service.now.size }
+        requires owed { (payload : List ℕ)
+            × IsOwed (C.gives service.now.clock.now) service.now.size service.now.shared.now self.old cursor.old turn
+            payload }
         requires done { (seq : ℕ) × (time : ℕ) × (done.now ≡ Done turn seq time) }
         ensures view { self.new.view ≡ self.old.view }
-        ensures settled { IfOk result (λ course. HasResent (C.gives hall.now.clock.now) hall.now.size hall.now.shared.now self.new cursor.new turn course) }
+        ensures settled { IfOk result (λ course.
+            HasResent (C.gives service.now.clock.now) service.now.size service.now.shared.now self.new cursor.new turn
+            course) }
     {
         if turn % DROP_INTERVAL == 0 {
-            return self.drop_connection(hall, cursor, turn);
+            return self.drop_connection(service, cursor, turn);
         }
         take_fine(&mut self.replica, done)?;
         Ok(Course::Whole)
@@ -120,22 +131,26 @@ impl Worker {
     /// Loses its connection without the Done, and joins and sends again.
     fn drop_connection<C: Clock, G, R: Wait>(
         &mut self,
-        hall: &Hall<'_, C, G, R>,
+        service: &Service<'_, C, G, R>,
         cursor: &mut Cursor,
         turn: u32,
     ) -> Result<Course, WantOfMemory>
-        requires size { IsOfSize hall.now.size }
-        requires owed { (payload : List ℕ) × IsOwed (C.gives hall.now.clock.now) hall.now.size hall.now.shared.now self.old cursor.old turn payload }
+        requires size { IsOfSize service.now.size }
+        requires owed { (payload : List ℕ)
+            × IsOwed (C.gives service.now.clock.now) service.now.size service.now.shared.now self.old cursor.old turn
+            payload }
         requires multiple { turn % drop_interval ≡ 0 }
         ensures view { self.new.view ≡ self.old.view }
-        ensures resent { IfOk result (λ course. HasResent (C.gives hall.now.clock.now) hall.now.size hall.now.shared.now self.new cursor.new turn course) }
+        ensures resent { IfOk result (λ course.
+            HasResent (C.gives service.now.clock.now) service.now.size service.now.shared.now self.new cursor.new turn
+            course) }
     {
-        let how = self.lose_connection(hall, cursor, turn)?;
-        let Some(next) = self.join(hall, how)? else {
+        let how = self.lose_connection(service, cursor, turn)?;
+        let Some(next) = self.join(service, how)? else {
             return Ok(Course::JoinRefused);
         };
         *cursor = next;
-        let Some(again) = self.send(hall, cursor)? else {
+        let Some(again) = self.send(service, cursor)? else {
             return Ok(Course::SendRefused);
         };
         take_fine(&mut self.replica, &again)?;
@@ -146,19 +161,23 @@ impl Worker {
     /// join again.
     fn lose_connection<C: Clock, G, R: Wait>(
         &mut self,
-        hall: &Hall<'_, C, G, R>,
+        service: &Service<'_, C, G, R>,
         cursor: &Cursor,
         turn: u32,
     ) -> Result<How, WantOfMemory>
-        requires owed { (payload : List ℕ) × IsOwed (C.gives hall.now.clock.now) hall.now.size hall.now.shared.now self.old cursor.now turn payload }
+        requires owed { (payload : List ℕ)
+            × IsOwed (C.gives service.now.clock.now) service.now.size service.now.shared.now self.old cursor.now turn
+            payload }
         requires multiple { turn % drop_interval ≡ 0 }
         ensures view { self.new.view ≡ self.old.view }
-        ensures lost { IfOk result (λ how. (payload : List ℕ) × IsLost (C.gives hall.now.clock.now) hall.now.size hall.now.shared.now self.new cursor.now turn payload how) }
+        ensures lost { IfOk result (λ how. (payload : List ℕ)
+            × IsLost (C.gives service.now.clock.now) service.now.size service.now.shared.now self.new cursor.now turn
+            payload how) }
     {
         if turn % LOSS_INTERVAL != 0 {
             return Ok(How::Resume);
         }
-        self.offer(hall, cursor)?;
+        self.offer(service, cursor)?;
         self.replica.lose()?;
         Ok(How::Fresh)
     }
@@ -166,21 +185,24 @@ impl Worker {
     /// Leaves, by its newest connection.
     fn leave<C: Clock, G, R: Wait>(
         &mut self,
-        hall: &Hall<'_, C, G, R>,
+        service: &Service<'_, C, G, R>,
         cursor: &Cursor,
     ) -> Result<(), WantOfMemory>
-        requires worker { IsWorker (C.gives hall.now.clock.now) hall.now.size hall.now.shared.now self.old }
+        requires worker { IsWorker (C.gives service.now.clock.now) service.now.size service.now.shared.now self.old }
         ensures pass { ChangesPass self.old self.new }
-        ensures worker { OnOk result (IsWorker (C.gives hall.now.clock.now) hall.now.size hall.now.shared.now self.new) }
-        ensures asked { OnOk result ((now : ℕ) × (reply : Reply) × HasAsked (C.gives hall.now.clock.now) hall.now.size.views hall.now.shared.now self.old.view self.old.pass self.new.pass
+        ensures worker { OnOk result
+            (IsWorker (C.gives service.now.clock.now) service.now.size service.now.shared.now self.new) }
+        ensures asked { OnOk result ((now : ℕ) × (reply : Reply)
+            × HasAsked (C.gives service.now.clock.now) service.now.size.views service.now.shared.now self.old.view
+            self.old.pass self.new.pass
             (Leave self.old.view cursor.now.joined now) reply) }
     {
         let leave = Request::Leave {
             view: self.view,
             joined: cursor.joined,
-            now: hall.clock.now(),
+            now: service.clock.now(),
         };
-        let _left = self.ask(hall, &leave)?;
+        let _left = self.ask(service, &leave)?;
         Ok(())
     }
 }

@@ -17,7 +17,7 @@ use tea_io::Clock;
 
 /// What all workers share.
 #[derive(Drop)]
-pub struct Hall<'a, C: Clock, G, R: Wait> {
+pub struct Service<'a, C: Clock, G, R: Wait> {
     pub rt: &'a R,
     pub alloc: Global,
     pub shared: &'a SharedSession<TrustReplay>,
@@ -39,16 +39,19 @@ impl Worker {
     /// Asks the session. Only an offer may not be asked so.
     pub fn ask<C: Clock, G, R: Wait>(
         &mut self,
-        hall: &Hall<'_, C, G, R>,
+        service: &Service<'_, C, G, R>,
         request: &Request,
     ) -> Result<Reply, WantOfMemory>
-        requires worker { IsWorker (C.gives hall.now.clock.now) hall.now.size hall.now.shared.now self.old }
+        requires worker { IsWorker (C.gives service.now.clock.now) service.now.size service.now.shared.now self.old }
         requires kind { is_offer request.now ≡ false }
-        requires asked { IsAskedBy (C.gives hall.now.clock.now) self.old.view request.now }
+        requires asked { IsAskedBy (C.gives service.now.clock.now) self.old.view request.now }
         ensures pass { ChangesPass self.old self.new }
-        ensures worker { OnOk result (IsWorker (C.gives hall.now.clock.now) hall.now.size hall.now.shared.now self.new) }
-        ensures asked { IfOk result (λ reply. HasAsked (C.gives hall.now.clock.now) hall.now.size.views hall.now.shared.now self.old.view self.old.pass self.new.pass request.now reply) }
+        ensures worker { OnOk result
+            (IsWorker (C.gives service.now.clock.now) service.now.size service.now.shared.now self.new) }
+        ensures asked { IfOk result (λ reply.
+            HasAsked (C.gives service.now.clock.now) service.now.size.views service.now.shared.now self.old.view
+            self.old.pass self.new.pass request.now reply) }
     {
-        hall.shared.call(hall.rt, &mut self.pass, request)
+        service.shared.call(service.rt, &mut self.pass, request)
     }
 }

@@ -45,10 +45,7 @@ pub(crate) fn open_folder<R: Files>(rt: &R, path: &str) -> io::Result<R::File> {
 pub(crate) fn put_new<R: Files + AllocGlobal>(rt: &R, path: &str, bytes: &[u8]) -> io::Result<()> {
     let folder = open_folder(rt, path)?;
     let (name, mut file) = new_beside(rt, path)?;
-    let put = match fill(&mut file, bytes) {
-        Ok(()) => fs::hard_link(rt, name.as_str(), path),
-        Err(error) => Err(error),
-    };
+    let put = fill(&mut file, bytes).and_then(|()| fs::hard_link(rt, name.as_str(), path));
     let removed = fs::remove_file(rt, name.as_str());
     put?;
     removed?;
@@ -74,10 +71,7 @@ fn move_over<R: Files>(rt: &R, name: &str, path: &str) -> io::Result<()> {
 /// and nothing is left of the new one. What the system's files hold is in no clause.
 pub fn put_over<R: Files + AllocGlobal>(rt: &R, path: &str, bytes: &[u8]) -> io::Result<()> {
     let (name, mut file) = new_beside(rt, path)?;
-    let put = match fill(&mut file, bytes) {
-        Ok(()) => move_over(rt, name.as_str(), path),
-        Err(error) => Err(error),
-    };
+    let put = fill(&mut file, bytes).and_then(|()| move_over(rt, name.as_str(), path));
     if put.is_err() {
         let _ = fs::remove_file(rt, name.as_str());
     }

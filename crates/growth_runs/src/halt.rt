@@ -31,6 +31,7 @@ pub(crate) enum Halt {
 }
 
 impl Halt {
+    /// The status with which the program ends.
     pub(crate) fn status(&self) -> u8 {
         match self {
             Halt::Broken(_) => 1,
@@ -39,6 +40,7 @@ impl Halt {
         }
     }
 
+    /// The line that is printed, without its end.
     pub(crate) fn line(&self) -> &'static str {
         match self {
             Halt::WantOfMemory => "memory",

@@ -57,10 +57,7 @@ fn founded(
     id: SessionId,
     view: u32,
 ) -> Result<Replica, Halt> {
-    match Replica::found(alloc, program, id, view) {
-        Ok(replica) => Ok(replica),
-        Err(WantOfMemory) => Err(Halt::WantOfMemory),
-    }
+    Ok(Replica::found(alloc, program, id, view)?)
 }
 
 /// The replica joins, and takes all frames.

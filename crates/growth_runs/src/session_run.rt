@@ -150,17 +150,14 @@ fn pull(session: &mut Session) -> Result<Reply, Halt>
         Ok(reply) => return Ok(reply),
         Err(WantOfMemory) => look(session, &before)?,
     }
-    match pull_once(session) {
-        Ok(reply) => Ok(reply),
-        Err(WantOfMemory) => Err(Halt::WantOfMemory),
-    }
+    Ok(pull_once(session)?)
 }
 
 fn pull_once(session: &mut Session) -> Result<Reply, WantOfMemory>
     ensures { IfOk result (λ reply. IsBatchAfter 0 reply) }
 {
     // says that the session is sound, and so that its log is legal
-    let _ = session.horizon();
+    let _ = session.horizon(); // for the prover
     session.call(&Request::Pull {
         after: 0,
         limit: MOST_PULLED,

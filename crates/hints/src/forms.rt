@@ -17,7 +17,7 @@ pub struct CommandForm {
 }
 
 /// The commands, each in a form of words: what a command takes in order, then its options; those in brackets may be left out.
-pub const COMMANDS: [CommandForm; 11] = [
+pub const COMMANDS: [CommandForm; 12] = [
     CommandForm {
         form: "stamp SCRIPT [--from LOG] [--log FILE]",
         does: "makes the log of a session from a script of requests",
@@ -59,6 +59,10 @@ pub const COMMANDS: [CommandForm; 11] = [
         does: "serves a session; a journal or a log is named at least",
     },
     CommandForm {
+        form: "host CONFIG ADDRESS --connections N --logs PREFIX",
+        does: "serves the sessions that a configuration names, each to the links that join it",
+    },
+    CommandForm {
         form: "drill SEED VIEWS EVENTS --log FILE --snapshots PREFIX",
         does: "runs up to eight views in threads, and compares their worlds",
     },
@@ -77,6 +81,8 @@ pub enum Grammar {
     Live,
     /// Queries.
     Queries,
+    /// The configuration of a host.
+    Config,
 }
 
 impl Grammar {
@@ -84,7 +90,7 @@ impl Grammar {
     pub fn line_name(self) -> &'static str {
         match self {
             Grammar::Session | Grammar::Hub => "request",
-            Grammar::View | Grammar::Live => "line",
+            Grammar::View | Grammar::Live | Grammar::Config => "line",
             Grammar::Queries => "query",
         }
     }
@@ -97,6 +103,7 @@ impl Grammar {
             Grammar::Live =>
                 "publish, watch, wait, settle, snap, cut, quit, mark, vote, show and hold",
             Grammar::Queries => "at and full",
+            Grammar::Config => "lines `session NAME PROGRAM` alone",
         }
     }
 
@@ -107,6 +114,8 @@ impl Grammar {
             Grammar::Live if name == b"hold".as_slice() => Some("hold N"),
             Grammar::View | Grammar::Live => view_form(name),
             Grammar::Queries => query_form(name),
+            Grammar::Config if name == b"session".as_slice() => Some("session NAME PROGRAM"),
+            Grammar::Config => None,
         }
     }
 }
@@ -225,6 +234,7 @@ pub fn line_kind(word: &str) -> Kind {
         "SCOPE" | "EVENT" => Kind::Literal,
         "VALUE" => Kind::Value,
         "HANDLING" => Kind::Handling,
+        "NAME" => Kind::Name,
         _ => Kind::Any,
     }
 }

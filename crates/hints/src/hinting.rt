@@ -1,7 +1,7 @@
 //! The hint on a run that has ended.
 use crate::ends::{FileFailure, NetReason, file_hint, net_hint, plain_hint, refused_hint};
 use crate::forms::{Grammar, Kind, rule};
-use crate::inputs::{file_of, input_of, replay_name};
+use crate::inputs::{config_of, file_of, input_of, replay_name};
 use crate::json::json_hint;
 use crate::lines::script_hint;
 use crate::place::{Source, shown};
@@ -116,7 +116,18 @@ fn of_status(alloc: Global, status: u8) -> Result<String, WantOfMemory> {
     }
 }
 
+/// The hint on a program of a host: which one it is the run does not say.
+fn of_host_program(alloc: Global, config: &Text, fault: &str) -> Result<String, WantOfMemory> {
+    let name = config.as_str();
+    Ok(format!(in alloc;
+        "{name}: a program that it names {fault}: `croquet check` of each of them says which\n"
+    )?)
+}
+
 fn of_program(alloc: Global, command: &Command, files: &[Given]) -> Result<String, WantOfMemory> {
+    if let Some(config) = config_of(command) {
+        return of_host_program(alloc, config, "is refused");
+    }
     let (Some(file), Some(text)) = (file_of(command, Input::Program), bytes_of(files, 0)) else {
         return Ok(String::new(alloc));
     };
@@ -127,8 +138,21 @@ fn of_program(alloc: Global, command: &Command, files: &[Given]) -> Result<Strin
     program_hint(alloc, source)
 }
 
+/// Which of the positionals of a command its address is.
+fn address_place(command: &Command) -> usize {
+    match command {
+        Command::Host(_) => 2,
+        _ => 3,
+    }
+}
+
 /// The hint on an input that is a word.
-fn of_word(alloc: Global, words: &Words, input: Input) -> Result<String, WantOfMemory> {
+fn of_word(
+    alloc: Global,
+    words: &Words,
+    command: &Command,
+    input: Input,
+) -> Result<String, WantOfMemory> {
     let words = words.as_slice();
     if input == Input::Time {
         let place = place_of_positional(words, 4);
@@ -144,7 +168,7 @@ fn of_word(alloc: Global, words: &Words, input: Input) -> Result<String, WantOfM
     word_hint(
         alloc,
         words,
-        place_of_positional(words, 3),
+        place_of_positional(words, address_place(command)),
         message.as_str(),
     )
 }
@@ -153,7 +177,7 @@ fn of_word(alloc: Global, words: &Words, input: Input) -> Result<String, WantOfM
 fn most_bytes(input: Input) -> usize {
     match input {
         Input::Script => 16_777_216,
-        Input::Program | Input::Queries => 65_536,
+        Input::Program | Input::Queries | Input::Config => 65_536,
         Input::Persisted => 1_048_576,
         Input::Snapshot => 4_194_304,
         _ => 268_435_456,
@@ -175,8 +199,11 @@ fn of_input(
     input: Input,
     files: &[Given],
 ) -> Result<String, WantOfMemory> {
+    if let (Input::Program, Some(config)) = (input, config_of(command)) {
+        return of_host_program(alloc, config, "has more than 65,536 bytes");
+    }
     let Some(name) = file_of(command, input) else {
-        return of_word(alloc, words, input);
+        return of_word(alloc, words, command, input);
     };
     let file = name.as_str();
     let Some(text) = bytes_of(files, 0) else {
@@ -203,6 +230,7 @@ fn of_text(
     match input {
         Input::Script => script_hint(alloc, script_grammar(command), source),
         Input::Queries => script_hint(alloc, Grammar::Queries, source),
+        Input::Config => script_hint(alloc, Grammar::Config, source),
         Input::Persisted => json_hint(alloc, source),
         Input::Log => log_hint(alloc, source),
         Input::Journal => journal_hint(alloc, source),
@@ -311,6 +339,7 @@ fn of_net(alloc: Global, command: &Command, reason: NetReason) -> Result<String,
         Command::Join(request) => net_hint(alloc, request.address.as_str(), false, reason),
         Command::Live(request) => net_hint(alloc, request.address.as_str(), false, reason),
         Command::Reflect(request) => net_hint(alloc, request.address.as_str(), true, reason),
+        Command::Host(request) => net_hint(alloc, request.address.as_str(), true, reason),
         _ => Ok(String::new(alloc)),
     }
 }

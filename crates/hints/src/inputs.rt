@@ -19,6 +19,7 @@ pub fn input_of(line: &[u8]) -> Option<Input> {
         "address" => Some(Input::Address),
         "every" => Some(Input::Every),
         "queries" => Some(Input::Queries),
+        "config" => Some(Input::Config),
         _ => None,
     }
 }
@@ -71,6 +72,14 @@ pub fn replay_name(command: &Command) -> Option<&Text> {
     }
 }
 
+/// The file of the configuration of a host.
+pub fn config_of(command: &Command) -> Option<&Text> {
+    match command {
+        Command::Host(request) => Some(&request.config),
+        _ => None,
+    }
+}
+
 /// The file of the journal that a command names, or of the log that may be one.
 fn journal_of(command: &Command) -> Option<&Text> {
     match command {
@@ -103,6 +112,7 @@ pub fn file_of(command: &Command, input: Input) -> Option<&Text> {
             Command::Inspect(request) => Some(&request.queries),
             _ => None,
         },
+        Input::Config => config_of(command),
         Input::Time | Input::Address => None,
     }
 }

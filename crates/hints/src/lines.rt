@@ -1,9 +1,10 @@
-//! Hints on session scripts, hubs' scripts, view scripts and queries: the first line that its reader refuses, and the word in it that is at fault.
+//! Hints on session scripts, hubs' scripts, view scripts, queries and configurations: the first line that its reader refuses, and the word in it that is at fault.
 use crate::forms::{Grammar, Kind, is_of_kind, line_kind, positionals, rule, words_of_line};
 use crate::place::{Source, Span, part, push_hint, push_marked, shown};
 use command_hub::read_hub_script;
 use command_inspect::{QueriesFault, parse_queries};
 use command_stamp::read_script;
+use host_config::read_config;
 use std::alloc::Global;
 use std::str;
 use tea_base::WantOfMemory;
@@ -51,6 +52,21 @@ fn is_hold(alloc: Global, line: &[u8]) -> Result<bool, WantOfMemory> {
     }
 }
 
+/// A line that a configuration may have.
+const A_SESSION: &[u8] = b"session a a\n";
+
+/// Whether a line is none that a configuration may have. A configuration has one session at least, so it is read after another one.
+fn is_no_session(alloc: Global, line: &[u8]) -> Result<bool, WantOfMemory> {
+    let mut text = Vec::with_capacity(alloc, A_SESSION.len().saturating_add(line.len()))?;
+    for byte in A_SESSION {
+        text.push(*byte)?;
+    }
+    for byte in line {
+        text.push(*byte)?;
+    }
+    Ok(read_config(alloc, &text)?.is_none())
+}
+
 /// Whether the reader of a text refuses these bytes.
 fn is_refused(alloc: Global, grammar: Grammar, bytes: &[u8]) -> Result<bool, WantOfMemory> {
     match grammar {
@@ -63,6 +79,7 @@ fn is_refused(alloc: Global, grammar: Grammar, bytes: &[u8]) -> Result<bool, Wan
             Err(QueriesFault::Bad) => Ok(true),
             Err(QueriesFault::WantOfMemory) => Err(WantOfMemory),
         },
+        Grammar::Config => is_no_session(alloc, bytes),
     }
 }
 
@@ -291,6 +308,15 @@ fn line_fault(alloc: Global, grammar: Grammar, line: &[u8]) -> Result<LineFault,
     }
 }
 
+/// What a text whose lines are right may break.
+fn limit_of(grammar: Grammar) -> &'static str {
+    match grammar {
+        Grammar::Config =>
+            "a host has from 1 to 16 sessions, no two of which have both one NAME and one program's text",
+        _ => "a script has at most 1,048,576 lines `publish` and `vote`",
+    }
+}
+
 /// A hint on a text of this grammar, which its reader refuses.
 pub fn script_hint(
     alloc: Global,
@@ -300,10 +326,8 @@ pub fn script_hint(
     let Source { file, text } = source;
     let mut out = String::new(alloc);
     let Some(line) = first_refused(alloc, grammar, text)? else {
-        write!(
-            out,
-            "{file}: each line is right by itself: a script has at most 1,048,576 lines `publish` and `vote`\n"
-        )?;
+        let limit = limit_of(grammar);
+        write!(out, "{file}: each line is right by itself: {limit}\n")?;
         return Ok(out);
     };
     let LineFault { span, message } = line_fault(alloc, grammar, part(text, line))?;

@@ -19,7 +19,8 @@ join_answer other = None
 
 -- the cursor of a connection that has joined: no entry and no tick was sent
 abbrev pub first_cursor : ℕ → Reply → Option Cursor
-first_cursor view (reply.Joined seq time last from base) = Some (record { view = view; joined = seq; after = from; last_tick = 0 })
+first_cursor view (reply.Joined seq time last from base) =
+    Some (record { view = view; joined = seq; after = from; last_tick = 0 })
 first_cursor view other = None
 
 -- ---- the replies to the requests of later frames

@@ -31,7 +31,10 @@ next_frames cursor other = []
 -- the cursor once they are sent
 abbrev pub next_cursor : Cursor → Reply → Cursor
 next_cursor cursor (reply.Batch entries tick) =
-    record cursor { after = cursor.after + length entries; last_tick = unwrap_or (newer_tick cursor.last_tick tick) cursor.last_tick }
+    record cursor {
+      after = cursor.after + length entries;
+      last_tick = unwrap_or (newer_tick cursor.last_tick tick) cursor.last_tick;
+    }
 next_cursor cursor other = cursor
 
 -- the entries have the seqs behind this one, in order

@@ -16,7 +16,8 @@ use Rattle.join_sync.specs.Refusals.{second_join_frame}
 
 -- the request of the first frame, which has to be a JOIN of this session
 abbrev pub first_request : ClientFrame → SessionId → ℕ → Result Request Early
-first_request (Join session view want) id now = if bytes_eq session.0 id.0 then Ok (request.Join view now want) else Err OtherSession
+first_request (Join session view want) id now =
+    if bytes_eq session.0 id.0 then Ok (request.Join view now want) else Err OtherSession
 first_request (Send number payload) id now = Err NotJoined
 first_request (Snap time bytes) id now = Err NotJoined
 first_request Leave id now = Err NotJoined

@@ -26,10 +26,14 @@ ghost use Rattle.join_sync.specs.declared.cursor.Cursor.{Cursor};
 /// stands behind the seq that was named, if the log has it. A refusal names the frame whose request it refuses.
 pub fn replies_fit()
     ensures replies { (s : PlainSession) (request : Request) → IsReplyTo request (answer s request).reply }
-    ensures frames { (cursor : Cursor) (frame : ClientFrame) (now : ℕ) (request : Request) → act_on cursor frame now ≡ Call request → IsOfFrame request }
-    ensures batches { (s : PlainSession) (after limit : ℕ) → IsLegal s.log → after ≤ length s.log → IsBatchAfter after (answer s (Pull after limit)).reply }
-    ensures batch { (s : PlainSession) (after limit : ℕ) (entries : List Entry) (tick : Option ℕ) → IsLegal s.log → (answer s (Pull after limit)).reply ≡ Batch entries tick → ComeAfter after entries }
-    ensures refusals { (cursor : Cursor) (frame : ClientFrame) (now : ℕ) (request : Request) (refusal : Refusal) → act_on cursor frame now ≡ Call request
+    ensures frames { (cursor : Cursor) (frame : ClientFrame) (now : ℕ) (request : Request)
+        → act_on cursor frame now ≡ Call request → IsOfFrame request }
+    ensures batches { (s : PlainSession) (after limit : ℕ) → IsLegal s.log → after ≤ length s.log
+        → IsBatchAfter after (answer s (Pull after limit)).reply }
+    ensures batch { (s : PlainSession) (after limit : ℕ) (entries : List Entry) (tick : Option ℕ) → IsLegal s.log
+        → (answer s (Pull after limit)).reply ≡ Batch entries tick → ComeAfter after entries }
+    ensures refusals { (cursor : Cursor) (frame : ClientFrame) (now : ℕ) (request : Request) (refusal : Refusal)
+        → act_on cursor frame now ≡ Call request
         → answer_frame request (Refused refusal) ≡ Some (refused_frame (client_tag frame) refusal) }
 {}
 
@@ -37,12 +41,18 @@ pub fn replies_fit()
 /// whatever others ask. Of a batch it is sent each entry in its place, and a tick only behind the entries up to it and above each tick
 /// before, and then its cursor stands behind them.
 pub fn batches_stream()
-    ensures joined { (s : PlainSession) (view now : ℕ) (want : Want) (seq time last from : ℕ) (base : Option Base) (cursor : Cursor)
-        → (answer s (Join view now want)).reply ≡ Joined seq time last from base → first_cursor view (Joined seq time last from base) ≡ Some cursor
+    ensures joined { (s : PlainSession) (view now : ℕ) (want : Want) (seq time last from : ℕ) (base : Option Base)
+        (cursor : Cursor)
+        → (answer s (Join view now want)).reply ≡ Joined seq time last from base
+        → first_cursor view (Joined seq time last from base) ≡ Some cursor
         → StandsAt (answer s (Join view now want)).session (record { seen = from; least = time }) cursor }
-    ensures grows { (s new : PlainSession) (place : Place) (cursor : Cursor) → GrowsTo s new → StandsAt s place cursor → StandsAt new place cursor }
-    ensures streams { (s : PlainSession) (place : Place) (cursor : Cursor) (limit : ℕ) → IsSoundSession s → StandsAt s place cursor
+    ensures grows { (s new : PlainSession) (place : Place) (cursor : Cursor) → GrowsTo s new → StandsAt s place cursor
+        → StandsAt new place cursor }
+    ensures streams { (s : PlainSession) (place : Place) (cursor : Cursor) (limit : ℕ) → IsSoundSession s
+        → StandsAt s place cursor
         → Streams s.log place (next_frames cursor (answer s (Pull cursor.after limit)).reply) }
-    ensures stands { (s : PlainSession) (place : Place) (cursor : Cursor) (limit : ℕ) → IsSoundSession s → StandsAt s place cursor
-        → StandsAt s (place_after_all place (next_frames cursor (answer s (Pull cursor.after limit)).reply)) (next_cursor cursor (answer s (Pull cursor.after limit)).reply) }
+    ensures stands { (s : PlainSession) (place : Place) (cursor : Cursor) (limit : ℕ) → IsSoundSession s
+        → StandsAt s place cursor
+        → StandsAt s (place_after_all place (next_frames cursor (answer s (Pull cursor.after limit)).reply))
+        (next_cursor cursor (answer s (Pull cursor.after limit)).reply) }
 {}

@@ -19,10 +19,12 @@ abbrev pub plain_opening : Option Stored → Option PlainStored
 plain_opening opening = option_map plain_stored opening
 
 -- the journal of a session is put under a name, where it is known with what it is founded; for its bytes memory may be wanted
-abbrev pub FoundsFirst : {T S : Type 0} → StoresTell T S → List ℕ → List ℕ → Option PlainStored → Result ⊤ StoreFault → T → T → Type 0
+abbrev pub FoundsFirst : {T S : Type 0} → StoresTell T S → List ℕ → List ℕ → Option PlainStored → Result ⊤ StoreFault
+    → T → T → Type 0
 FoundsFirst stores id name None result old new = (result ≡ Ok tt) × (new ≡ old)
 FoundsFirst stores id name (Some stored) result old new =
-    ((result ≡ Err store_fault.WantOfMemory) × (new ≡ old)) ⊎ FoundsFile stores name (founding_spelling id stored) result old new
+    ((result ≡ Err store_fault.WantOfMemory) × (new ≡ old))
+    ⊎ FoundsFile stores name (founding_spelling id stored) result old new
 
 -- what is answered where a store was opened, or not
 abbrev pub opening_answer : {A : Type 0} → Result A StoreFault → Result A OpeningFault
@@ -31,14 +33,18 @@ opening_answer (Err store_fault.Failed) = Err opening_fault.Unopened
 opening_answer (Err store_fault.WantOfMemory) = Err opening_fault.WantOfMemory
 
 -- once the journal was founded, or not, it is opened, or not
-abbrev pub OpensThen : {T S : Type 0} → StoresTell T S → List ℕ → Result ⊤ StoreFault → Result (Opened S) OpeningFault → T → T → Type 0
+abbrev pub OpensThen : {T S : Type 0} → StoresTell T S → List ℕ → Result ⊤ StoreFault → Result (Opened S) OpeningFault
+    → T → T → Type 0
 OpensThen {S = S} stores name (Ok founded) answer old new =
-    (result : Result (Opened S) StoreFault) × OpensFile stores name most_journal result old new × (answer ≡ opening_answer result)
+    (result : Result (Opened S) StoreFault) × OpensFile stores name most_journal result old new
+    × (answer ≡ opening_answer result)
 OpensThen stores name (Err store_fault.Failed) answer old new = (answer ≡ Err opening_fault.Unfounded) × (new ≡ old)
-OpensThen stores name (Err store_fault.WantOfMemory) answer old new = (answer ≡ Err opening_fault.WantOfMemory) × (new ≡ old)
+OpensThen stores name (Err store_fault.WantOfMemory) answer old new =
+    (answer ≡ Err opening_fault.WantOfMemory) × (new ≡ old)
 
 -- the journal of this name is opened, and founded before that
-pub record OpensJournal {T S : Type 0} (stores : StoresTell T S) (id name : List ℕ) (opening : Option PlainStored) (answer : Result (Opened S) OpeningFault) (old new : T) : Type 0 where
+pub record OpensJournal {T S : Type 0} (stores : StoresTell T S) (id name : List ℕ) (opening : Option PlainStored)
+    (answer : Result (Opened S) OpeningFault) (old new : T) : Type 0 where
   pub founded : Result ⊤ StoreFault
   pub mid : T
   pub founds : FoundsFirst stores id name opening founded old mid

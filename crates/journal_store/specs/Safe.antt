@@ -7,7 +7,8 @@ use Rattle.session_keeper.specs.declared.keeper.JournalKeeper.{JournalKeeper}
 
 -- bytes are read as the journal of this session, and whole
 abbrev pub ReadsAs : List ℕ → List ℕ → PlainStored → Type 0
-ReadsAs id bytes state = (check : List ℕ) × (read_journal id bytes ≡ Goes (record { state = state; check = check; rest = [] }))
+ReadsAs id bytes state = (check : List ℕ)
+    × (read_journal id bytes ≡ Goes (record { state = state; check = check; rest = [] }))
 
 -- bytes are read as a session that has this log and at least this horizon
 pub record ReadsAtLeast (id bytes : List ℕ) (s : PlainSession) : Type 0 where
@@ -19,4 +20,5 @@ pub record ReadsAtLeast (id bytes : List ℕ) (s : PlainSession) : Type 0 where
 -- where the store of a keeper tells its bytes, the safe ones are read so
 abbrev pub IsSafelyKept : {S : Type 0} → (S → Option (List ℕ)) → (S → ℕ) → JournalKeeper S → PlainSession → Type 0
 IsSafelyKept told safe keeper s =
-    (bytes : List ℕ) → told keeper.journal.store ≡ Some bytes → ReadsAtLeast keeper.id.0 (take (safe keeper.journal.store) bytes) s
+    (bytes : List ℕ) → told keeper.journal.store ≡ Some bytes
+    → ReadsAtLeast keeper.id.0 (take (safe keeper.journal.store) bytes) s

@@ -29,12 +29,13 @@ fn resume<S: Store + Drop>(
     ensures session { IfOk result (λ kept. kept.0.plain ≡ session_of (plain_stored stored)) }
     ensures sound { IfOk result (λ kept. IsSoundSession kept.0.plain) }
     ensures keeper { IfOk result (λ kept. kept.1 ≡ record { id = id; journal = journal; full = false }) }
-    ensures err { IfErr result (λ unopened. (unopened.store ≡ journal.store) × (unopened.fault ≡ StoreFault.WantOfMemory)) }
+    ensures err { IfErr result (λ unopened. (unopened.store ≡ journal.store)
+        × (unopened.fault ≡ StoreFault.WantOfMemory)) }
 {
     match Session::resume(alloc, stored) {
         Ok(session) => {
             // tells that the session is sound, so that it covers itself
-            let _horizon = session.horizon();
+            let _horizon = session.horizon(); // for the prover
             let keeper = JournalKeeper {
                 id,
                 journal,
@@ -63,16 +64,17 @@ pub fn go_on<S: Store + Drop>(
     requires { WasRead (S.bytes store) id.0 (read_place read) read.good }
     ensures session { IfOk result (λ kept. kept.0.plain ≡ session_of (plain_stored read.entry.stored)) }
     // What the keeper holds covers the session, and keeps the same snapshot. So does what it has written, which is the same.
-    ensures covered { IfOk result (λ kept. IsCovered (IsJournalOf S.bytes S.safe kept.1) kept.0.plain.kept kept.0.plain) }
-    ensures written { IfOk result (λ kept. IsCovered (WritesJournalOf S.bytes S.safe kept.1) kept.0.plain.kept kept.0.plain) }
+    ensures covered { IfOk result (λ kept.
+        IsCovered (IsJournalOf S.bytes S.safe kept.1) kept.0.plain.kept kept.0.plain) }
+    ensures written { IfOk result (λ kept.
+        IsCovered (WritesJournalOf S.bytes S.safe kept.1) kept.0.plain.kept kept.0.plain) }
     ensures unshut { IfOk result (λ kept. ¬ IsShut kept.1) }
     ensures id { IfOk result (λ kept. kept.1.id ≡ id) }
     ensures faults { IfOk result (λ kept. S.faults store ≤ S.faults kept.1.journal.store) }
-    ensures failed { IfErr result (λ unopened. unopened.fault ≡ StoreFault.Failed → Rose (S.faults store) (S.faults unopened.store)) }
+    ensures failed { IfErr result (λ unopened. unopened.fault ≡ StoreFault.Failed
+        → Rose (S.faults store) (S.faults unopened.store)) }
 {
-    what_is_read_may_be_opened();
-    match Journal::open(store, &read) {
-        Ok(journal) => resume(alloc, id, journal, read.stored),
-        Err(unopened) => Err(unopened),
-    }
+    what_is_read_may_be_opened(); // for the prover
+    let journal = Journal::open(store, &read)?;
+    resume(alloc, id, journal, read.stored)
 }

@@ -30,7 +30,8 @@ fn found_first<S: Stores>(
     stores: &mut S,
 ) -> Result<(), StoreFault>
     requires { IfSome opening (λ stored. IsStored (plain_stored stored.now)) }
-    ensures founds { FoundsFirst (stores_tell S.held S.faults S.Store.bytes S.Store.safe S.Store.faults) id.now.0 name.now (plain_opening (option_copied opening.entry))
+    ensures founds { FoundsFirst (stores_tell S.Stores S.Store.Store) id.now.0
+        name.now (plain_opening (option_copied opening.entry))
         result stores.old stores.new }
     ensures out { S.is_out stores.new name.now ≡ S.is_out stores.old name.now }
 {
@@ -52,7 +53,8 @@ pub fn open_journal<S: Stores>(
     stores: &mut S,
 ) -> Result<Opened<S::Store>, OpeningFault>
     requires { IfSome opening (λ stored. IsStored (plain_stored stored.now)) }
-    ensures opens { OpensJournal (stores_tell S.held S.faults S.Store.bytes S.Store.safe S.Store.faults) id.now.0 name.now (plain_opening (option_copied opening.entry))
+    ensures opens { OpensJournal (stores_tell S.Stores S.Store.Store) id.now.0
+        name.now (plain_opening (option_copied opening.entry))
         result stores.old stores.new }
     ensures out { HasOut (S.is_out stores.new name.now) result }
 {

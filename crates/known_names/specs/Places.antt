@@ -10,6 +10,8 @@ IsKnownAt place x ks = (k : Known) × (slice_get ks place ≡ Some k) × (k.name
 -- where a name stands, or would stand
 abbrev pub IsPlaceOf : Result ℕ ℕ → List ℕ → List Known → Type 0
 IsPlaceOf (Ok place) x ks =
-    IsKnownAt place x ks × ((object : ℕ) → with_known x object ks ≡ slice_set ks place (record { name = x; object = object }))
+    IsKnownAt place x ks × ((object : ℕ)
+    → with_known x object ks ≡ slice_set ks place (record { name = x; object = object }))
 IsPlaceOf (Err place) x ks =
-    (place ≤ length ks) × (object_known x ks ≡ None) × ((object : ℕ) → with_known x object ks ≡ insert ks place (record { name = x; object = object }))
+    (place ≤ length ks) × (object_known x ks ≡ None)
+    × ((object : ℕ) → with_known x object ks ≡ insert ks place (record { name = x; object = object }))

@@ -76,7 +76,8 @@ impl Names {
     /// How much more the names weigh with this one among them, whoever is known by it: nothing where it is known already.
     /// Takes no memory.
     pub fn added_weight(&self, name: &Text) -> u64
-        ensures { (object : ℕ) → total_weight weight_of_known (with_known name.now object self.now) ≡ total_weight weight_of_known self.now + result }
+        ensures { (object : ℕ) → total_weight weight_of_known (with_known name.now object self.now)
+            ≡ total_weight weight_of_known self.now + result }
     {
         match place_of(&self.names, name) {
             Ok(_) => 0,

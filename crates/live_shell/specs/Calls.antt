@@ -32,9 +32,11 @@ fed_by (Err fault) = fed.Nothing
 abbrev pub SendsAll : {L : Type 0} → LinksTell L → List (List ℕ) → Came → L → L → Type 0
 SendsAll links [] Well old new = new ≡ old
 SendsAll links [] came old new = ⊥
-SendsAll {L = L} links (frame ∷ frames) Well old new = (mid : L) × SendsFrame links Well frame old mid × SendsAll links frames Well mid new
+SendsAll {L = L} links (frame ∷ frames) Well old new =
+    (mid : L) × SendsFrame links Well frame old mid × SendsAll links frames Well mid new
 SendsAll {L = L} links (frame ∷ frames) came old new =
-    ((mid : L) × SendsFrame links Well frame old mid × SendsAll links frames came mid new) ⊎ SendsFrame links came frame old new
+    ((mid : L) × SendsFrame links Well frame old mid × SendsAll links frames came mid new)
+    ⊎ SendsFrame links came frame old new
 
 -- a text is printed, unless it is empty
 abbrev pub PrintsSome : {W : Type 0} → OutputTells W → List ℕ → Came → W → W → Type 0
@@ -57,7 +59,8 @@ pub record PrintsBoth {W : Type 0} (out : OutputTells W) (text here : List ℕ) 
   pub here_printed : PrintsSome out here Well mid new
 
 -- one of both was not printed
-pub record PrintsNot {W : Type 0} (out : OutputTells W) (text here : List ℕ) (end : ViewEnd) (old new : W) : Type 0 where
+pub record PrintsNot {W : Type 0} (out : OutputTells W) (text here : List ℕ) (end : ViewEnd)
+    (old new : W) : Type 0 where
   pub mid : W
   pub came : Came
   pub cut : (PrintsSome out text came old new) ⊎ (PrintsSome out text Well old mid × PrintsSome out here came mid new)
@@ -68,19 +71,22 @@ Prints out text here (Ok done) old new = PrintsBoth out text here old new
 Prints out text here (Err end) old new = PrintsNot out text here end old new
 
 -- frames are sent, and then texts are printed
-pub record AnswersAll {W L : Type 0} (out : OutputTells W) (links : LinksTell L) (t : LiveTold) (w w' : W) (l l' : L) : Type 0 where
+pub record AnswersAll {W L : Type 0} (out : OutputTells W) (links : LinksTell L) (t : LiveTold) (w w' : W)
+    (l l' : L) : Type 0 where
   pub sent : SendsAll links t.frames Well l l'
   pub printed : PrintsBoth out t.text (here_text t.here) w w'
 
 -- a frame was not sent
-pub record SendsNot {W L : Type 0} (links : LinksTell L) (frames : List (List ℕ)) (end : ViewEnd) (w w' : W) (l l' : L) : Type 0 where
+pub record SendsNot {W L : Type 0} (links : LinksTell L) (frames : List (List ℕ)) (end : ViewEnd) (w w' : W)
+    (l l' : L) : Type 0 where
   pub came : Came
   pub sent : SendsAll links frames came l l'
   pub ends : IsEndOf came ending.NetFault end
   pub kept : w' ≡ w
 
 -- or a text was not printed
-pub record SendsButNot {W L : Type 0} (out : OutputTells W) (links : LinksTell L) (t : LiveTold) (end : ViewEnd) (w w' : W) (l l' : L) : Type 0 where
+pub record SendsButNot {W L : Type 0} (out : OutputTells W) (links : LinksTell L) (t : LiveTold) (end : ViewEnd)
+    (w w' : W) (l l' : L) : Type 0 where
   pub sent : SendsAll links t.frames Well l l'
   pub printed : PrintsNot out t.text (here_text t.here) end w w'
 
@@ -89,5 +95,7 @@ Answers out links t (Ok done) w w' l l' = AnswersAll out links t w w' l l'
 Answers out links t (Err end) w w' l l' = SendsNot links t.frames end w w' l l' ⊎ SendsButNot out links t end w w' l l'
 
 -- or the view had no memory for an answer
-abbrev pub AnswersOrNot : {W L : Type 0} → OutputTells W → LinksTell L → LiveTold → Result ⊤ ViewEnd → W → W → L → L → Type 0
-AnswersOrNot out links t result w w' l l' = Answers out links t result w w' l l' ⊎ ((result ≡ Err ending.WantOfMemory) × (w' ≡ w) × (l' ≡ l))
+abbrev pub AnswersOrNot : {W L : Type 0} → OutputTells W → LinksTell L → LiveTold → Result ⊤ ViewEnd → W → W → L → L
+    → Type 0
+AnswersOrNot out links t result w w' l l' =
+    Answers out links t result w w' l l' ⊎ ((result ≡ Err ending.WantOfMemory) × (w' ≡ w) × (l' ≡ l))

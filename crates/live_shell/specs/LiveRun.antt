@@ -152,13 +152,15 @@ IsLiveCutEnd Failed step end = ⊥
 
 -- as the view says in the phase that it has reached, or for want of memory, or by its cut
 abbrev pub EndsLive : Phase → Option LiveInput → Option LiveCut → LiveEnd → Type 0
-EndsLive last None None end = ((how : ViewEnd) × (last ≡ Over how) × (end ≡ live_end.View how)) ⊎ (end ≡ live_end.View ending.WantOfMemory)
+EndsLive last None None end = ((how : ViewEnd) × (last ≡ Over how) × (end ≡ live_end.View how))
+    ⊎ (end ≡ live_end.View ending.WantOfMemory)
 EndsLive last (Some told) None end = end ≡ live_end.View ending.WantOfMemory
 EndsLive last more (Some cut) end = IsLiveCutEnd cut.came cut.step end
 
 -- Turns that were all done lead from one state of the outside, and of the view, to another. Each was due, after so many lines, and was
 -- wanted, and each frame that was sent fits the wire. So many lines came in a row after them.
-pub record Turned {K W N L : Type 0} (tells : LiveTells K W N L) (address : List ℕ) (lines : ℕ) (Behind : ℕ → Type 0) (first last : LiveState) (old new : LiveOutside K W N L) : Type 0 where
+pub record Turned {K W N L : Type 0} (tells : LiveTells K W N L) (address : List ℕ) (lines : ℕ) (Behind : ℕ → Type 0)
+    (first last : LiveState) (old new : LiveOutside K W N L) : Type 0 where
   pub turns : List Turn
   pub acts : LiveActs tells (steps_of address first turns) None old new
   pub state : state_after first turns ≡ last
@@ -169,7 +171,8 @@ pub record Turned {K W N L : Type 0} (tells : LiveTells K W N L) (address : List
 
 -- turns were done up to an end: up to a cut, or until the view had ended, or had no memory for what it was told last; each was due, and
 -- was wanted. Where no call cut them, each frame that was sent fits the wire.
-pub record Stopped {K W N L : Type 0} (tells : LiveTells K W N L) (address : List ℕ) (lines : ℕ) (first : LiveState) (end : LiveEnd) (old new : LiveOutside K W N L) : Type 0 where
+pub record Stopped {K W N L : Type 0} (tells : LiveTells K W N L) (address : List ℕ) (lines : ℕ) (first : LiveState)
+    (end : LiveEnd) (old new : LiveOutside K W N L) : Type 0 where
   pub turns : List Turn
   pub last : Option LiveInput
   pub cut : Option LiveCut
@@ -181,15 +184,18 @@ pub record Stopped {K W N L : Type 0} (tells : LiveTells K W N L) (address : Lis
 
 -- A run of a view from one state to its end: feed and link were asked in some order, and its steps are those of what they told, up to a
 -- cut. Then the link that is in use, if any, goes back.
-pub record LiveRan {K W N L : Type 0} (tells : LiveTells K W N L) (address : List ℕ) (first : LiveState) (end : LiveEnd) (old new : LiveOutside K W N L) : Type 0 where
+pub record LiveRan {K W N L : Type 0} (tells : LiveTells K W N L) (address : List ℕ) (first : LiveState) (end : LiveEnd)
+    (old new : LiveOutside K W N L) : Type 0 where
   pub mid : LiveOutside K W N L
   pub stopped : Stopped tells address 0 first end old mid
   pub back : GoesBack tells mid new
 
 -- what turns come to: they were all done, or stopped
-abbrev pub Turns : {K W N L A : Type 0} → LiveTells K W N L → List ℕ → ℕ → (A → ℕ → Type 0) → LiveState → LiveState → Result A LiveEnd → LiveOutside K W N L → LiveOutside K W N L → Type 0
+abbrev pub Turns : {K W N L A : Type 0} → LiveTells K W N L → List ℕ → ℕ → (A → ℕ → Type 0) → LiveState → LiveState
+    → Result A LiveEnd → LiveOutside K W N L → LiveOutside K W N L → Type 0
 Turns tells address lines Behind first last result old new =
-    MatchResult result (λ it. Turned tells address lines (Behind it) first last old new) (λ end. Stopped tells address lines first end old new)
+    MatchResult result (λ it. Turned tells address lines (Behind it) first last old new) (λ end.
+    Stopped tells address lines first end old new)
 
 -- the answer is how many lines came in a row; or nothing is said of that
 abbrev pub AreCounted : ℕ → ℕ → Type 0
@@ -199,20 +205,29 @@ abbrev pub AreAny : {A : Type 0} → A → ℕ → Type 0
 AreAny it lines = ⊤
 
 -- what turns on a link come to, over each net; the view behind them is named with the address of its session's reflector
-pub record Attends {K W N L A : Type 0} (tells : LiveTells K W N L) (lines : ℕ) (Behind : A → ℕ → Type 0) (first last : List ℕ → LiveState) (result : Result A LiveEnd) (feed feed' : K) (w w' : W) (l l' : L) : Type 0 where
-  pub turns : (address : List ℕ) (net : N) → Turns tells address lines Behind (first address) (last address) result (live_outside feed w net (Some l)) (live_outside feed' w' net (Some l'))
+pub record Attends {K W N L A : Type 0} (tells : LiveTells K W N L) (lines : ℕ) (Behind : A → ℕ → Type 0)
+    (first last : List ℕ → LiveState) (result : Result A LiveEnd) (feed feed' : K) (w w' : W) (l l' : L) : Type 0 where
+  pub turns : (address : List ℕ) (net : N)
+      → Turns tells address lines Behind (first address) (last address) result (live_outside feed w net (Some l))
+      (live_outside feed' w' net (Some l'))
 
 -- the same from the making of the link on, after any lines
-pub record Enters {K W N L A : Type 0} (tells : LiveTells K W N L) (first last : List ℕ → LiveState) (result : Result A LiveEnd) (feed feed' : K) (w w' : W) (l l' : L) : Type 0 where
-  pub turns : (address : List ℕ) (net : N) (lines : ℕ) (from : LiveOutside K W N L) → LiveActs tells (asked address input.Linked) None from (live_outside feed w net (Some l))
-      → Turns tells address lines AreAny (first address) (last address) result from (live_outside feed' w' net (Some l'))
+pub record Enters {K W N L A : Type 0} (tells : LiveTells K W N L) (first last : List ℕ → LiveState)
+    (result : Result A LiveEnd) (feed feed' : K) (w w' : W) (l l' : L) : Type 0 where
+  pub turns : (address : List ℕ) (net : N) (lines : ℕ) (from : LiveOutside K W N L)
+      → LiveActs tells (asked address input.Linked) None from (live_outside feed w net (Some l))
+      → Turns tells address lines AreAny (first address) (last address) result from
+      (live_outside feed' w' net (Some l'))
 
 -- turns, and then the link that is in use, if any, goes back
-pub record TurnsAndBack {K W N L A : Type 0} (tells : LiveTells K W N L) (address : List ℕ) (lines : ℕ) (first last : LiveState) (result : Result A LiveEnd) (old new : LiveOutside K W N L) : Type 0 where
+pub record TurnsAndBack {K W N L A : Type 0} (tells : LiveTells K W N L) (address : List ℕ) (lines : ℕ)
+    (first last : LiveState) (result : Result A LiveEnd) (old new : LiveOutside K W N L) : Type 0 where
   pub mid : LiveOutside K W N L
   pub turns : Turns tells address lines AreAny first last result old mid
   pub back : GoesBack tells mid new
 
 -- what a link comes to that is made after one that goes back, after any lines
-pub record Visits {K W N L A : Type 0} (tells : LiveTells K W N L) (address : List ℕ) (first last : LiveState) (result : Result A LiveEnd) (old new : LiveOutside K W N L) : Type 0 where
-  pub turns : (lines : ℕ) (from : LiveOutside K W N L) → GoesBack tells from old → TurnsAndBack tells address lines first last result from new
+pub record Visits {K W N L A : Type 0} (tells : LiveTells K W N L) (address : List ℕ) (first last : LiveState)
+    (result : Result A LiveEnd) (old new : LiveOutside K W N L) : Type 0 where
+  pub turns : (lines : ℕ) (from : LiveOutside K W N L) → GoesBack tells from old
+      → TurnsAndBack tells address lines first last result from new

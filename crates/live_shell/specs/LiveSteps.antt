@@ -5,6 +5,7 @@ use Rattle.tea_io.specs.declared.link.Heard.{Heard}
 use Rattle.tea_io.specs.declared.link.Heard.TheVariants as heard
 use Rattle.run_steps.specs.Outside.{OutputTells, NetTells, LinksTell, Came, Well, Failed, WantedMemory, PrintsText, MakesLink, GivesBack, HearsLink, SendsFrame, OnLink}
 use Rattle.live_shell.specs.declared.feed.Fed.{Fed}
+use Rattle.live_shell.specs.declared.feed.Feed.{Ghosts as OfFeed}
 use Rattle.live_shell.specs.declared.feed.Fed.TheVariants as fed
 use Rattle.live_shell.specs.Feeds.{note_of, TakesLine, FeedCause}
 
@@ -43,8 +44,8 @@ pub record FeedTells (K : Type 0) : Type 0 where
   pub told : K → Option (List Fed)
   pub faults : K → ℕ
 
-abbrev pub feed_tells : {K : Type 0} → (K → Option (List (List ℕ))) → (K → Option (List Fed)) → (K → ℕ) → FeedTells K
-feed_tells coming told faults = record { coming = coming; told = told; faults = faults }
+abbrev pub feed_tells : {K : Type 0} → OfFeed K → FeedTells K
+feed_tells k = record { coming = k.coming; told = k.told; faults = k.faults }
 
 -- all that the outside tells
 pub record LiveTells (K W N L : Type 0) : Type 0 where
@@ -53,7 +54,8 @@ pub record LiveTells (K W N L : Type 0) : Type 0 where
   pub net : NetTells N L
   pub links : LinksTell L
 
-abbrev pub live_tells : {K W N L : Type 0} → FeedTells K → OutputTells W → NetTells N L → LinksTell L → LiveTells K W N L
+abbrev pub live_tells : {K W N L : Type 0} → FeedTells K → OutputTells W → NetTells N L → LinksTell L
+    → LiveTells K W N L
 live_tells feed out net links = record { feed = feed; out = out; net = net; links = links }
 
 -- ---- the feed
@@ -97,16 +99,24 @@ HearsAny links WantedMemory what old new = HearsLink links WantedMemory what old
 HearsAny links Failed what old new = ⊥
 
 -- what a step does to the outside where its call came out so: one part of it moves, and the others stay as they are
-abbrev pub ActsLive : {K W N L : Type 0} → LiveTells K W N L → Came → LiveStep → LiveOutside K W N L → LiveOutside K W N L → Type 0
-ActsLive tells came (Asks what) old new = AsksFeed tells.feed came what old.feed new.feed × (new ≡ record old { feed = new.feed })
+abbrev pub ActsLive : {K W N L : Type 0} → LiveTells K W N L → Came → LiveStep → LiveOutside K W N L
+    → LiveOutside K W N L → Type 0
+ActsLive tells came (Asks what) old new =
+    AsksFeed tells.feed came what old.feed new.feed × (new ≡ record old { feed = new.feed })
 ActsLive tells came (Links address made) old new =
-    (old.link ≡ None) × LinksOrNot tells.net tells.links came address made old.net new.net new.link × (new ≡ record old { net = new.net; link = new.link })
-ActsLive tells came (Hears what) old new = OnLink (HearsAny tells.links came what) old.link new.link × (new ≡ record old { link = new.link })
-ActsLive tells came (Sends frame) old new = OnLink (SendsFrame tells.links came frame) old.link new.link × (new ≡ record old { link = new.link })
-ActsLive tells came (Prints text) old new = PrintsText tells.out came text old.out new.out × (new ≡ record old { out = new.out })
+    (old.link ≡ None) × LinksOrNot tells.net tells.links came address made old.net new.net new.link
+    × (new ≡ record old { net = new.net; link = new.link })
+ActsLive tells came (Hears what) old new = OnLink (HearsAny tells.links came what) old.link new.link
+    × (new ≡ record old { link = new.link })
+ActsLive tells came (Sends frame) old new = OnLink (SendsFrame tells.links came frame) old.link new.link
+    × (new ≡ record old { link = new.link })
+ActsLive tells came (Prints text) old new =
+    PrintsText tells.out came text old.out new.out × (new ≡ record old { out = new.out })
 ActsLive tells came Returns old new =
-    (came ≡ Well) × GivesBack tells.net tells.links old.link old.net new.net × (new ≡ record old { net = new.net; link = None })
-ActsLive tells came Pauses old new = (came ≡ Well) × Rests tells.feed old.feed new.feed × (new ≡ record old { feed = new.feed })
+    (came ≡ Well) × GivesBack tells.net tells.links old.link old.net new.net
+    × (new ≡ record old { net = new.net; link = None })
+ActsLive tells came Pauses old new = (came ≡ Well) × Rests tells.feed old.feed new.feed
+    × (new ≡ record old { feed = new.feed })
 
 -- ---- steps
 
@@ -116,7 +126,8 @@ pub record LiveCut : Type 0 where
   pub came : Came
 
 -- Steps are done, one after the other. One that fails or wants memory cuts them: no other is done.
-abbrev pub LiveActs : {K W N L : Type 0} → LiveTells K W N L → List LiveStep → Option LiveCut → LiveOutside K W N L → LiveOutside K W N L → Type 0
+abbrev pub LiveActs : {K W N L : Type 0} → LiveTells K W N L → List LiveStep → Option LiveCut → LiveOutside K W N L
+    → LiveOutside K W N L → Type 0
 LiveActs tells [] None old new = new ≡ old
 LiveActs tells [] (Some cut) old new = ⊥
 LiveActs {K = K} {W = W} {N = N} {L = L} tells (step ∷ steps) cut old new =
@@ -126,4 +137,5 @@ LiveActs {K = K} {W = W} {N = N} {L = L} tells (step ∷ steps) cut old new =
 
 -- the link that is in use, if any, goes back to its net
 abbrev pub GoesBack : {K W N L : Type 0} → LiveTells K W N L → LiveOutside K W N L → LiveOutside K W N L → Type 0
-GoesBack tells old new = GivesBack tells.net tells.links old.link old.net new.net × (new ≡ record old { net = new.net; link = None })
+GoesBack tells old new = GivesBack tells.net tells.links old.link old.net new.net
+    × (new ≡ record old { net = new.net; link = None })

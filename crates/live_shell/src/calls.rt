@@ -15,7 +15,7 @@ use tea_io::{Heard, Link, Sink};
 
 /// Asks the feed: what the view is to be told, if anything came.
 pub fn ask<K: Feed>(feed: &mut K) -> Result<Option<LiveInput>, CallFault>
-    ensures asked { AsksFeed (feed_tells K.coming K.told K.faults) (came_of result) (fed_by result) feed.old feed.new }
+    ensures asked { AsksFeed (feed_tells K.Feed) (came_of result) (fed_by result) feed.old feed.new }
     ensures told { IfOk result IsFed }
 {
     match feed.next() {
@@ -29,8 +29,8 @@ pub fn ask<K: Feed>(feed: &mut K) -> Result<Option<LiveInput>, CallFault>
 
 /// What the link says.
 pub fn hear<L: Link>(link: &mut L) -> Result<Heard, WantOfMemory>
-    ensures well { IfOk result (λ what. HearsAny (links_tell L.coming L.heard L.sent L.counts) Well what link.old link.new) }
-    ensures wanted { OnErr result (HearsAny (links_tell L.coming L.heard L.sent L.counts) WantedMemory Heard.Quiet link.old link.new) }
+    ensures well { IfOk result (λ what. HearsAny (links_tell L.Link) Well what link.old link.new) }
+    ensures wanted { OnErr result (HearsAny (links_tell L.Link) WantedMemory Heard.Quiet link.old link.new) }
 {
     match link.recv() {
         Heard::Frame(bytes) => Ok(Heard::Frame(bytes)),
@@ -43,7 +43,8 @@ pub fn hear<L: Link>(link: &mut L) -> Result<Heard, WantOfMemory>
 
 /// Some time goes by, where a link fewer is to be made again than before.
 pub fn pause_if<K: Feed>(feed: &mut K, before: u64, left: u64)
-    ensures { (held : Bool) → (held ≡ true → 0 < before) → left ≡ one_fewer held before → PausesBy (feed_tells K.coming K.told K.faults) held feed.old feed.new }
+    ensures { (held : Bool) → (held ≡ true → 0 < before) → left ≡ one_fewer held before
+        → PausesBy (feed_tells K.Feed) held feed.old feed.new }
 {
     if left >= before {
         return;
@@ -53,20 +54,17 @@ pub fn pause_if<K: Feed>(feed: &mut K, before: u64, left: u64)
 
 /// Sends frames in order.
 pub fn send_frames<L: Link>(link: &mut L, frames: &[Blob]) -> Result<(), CallFault>
-    ensures { SendsAll (links_tell L.coming L.heard L.sent L.counts) frames.now (came_of result) link.old link.new }
+    ensures { SendsAll (links_tell L.Link) frames.now (came_of result) link.old link.new }
 {
     for frame in frames {
-        match send_frame(link, frame.bytes()) {
-            Ok(()) => {}
-            Err(fault) => return Err(fault),
-        }
+        send_frame(link, frame.bytes())?;
     }
     Ok(())
 }
 
 /// Prints a text. Of an empty one the output is not asked.
 pub fn print_some<W: Sink>(out: &mut W, text: &[u8]) -> Result<(), CallFault>
-    ensures { PrintsSome (output_tells W.written W.faults W.wants) text.now (came_of result) out.old out.new }
+    ensures { PrintsSome (output_tells W.Sink) text.now (came_of result) out.old out.new }
 {
     if text.is_empty() {
         return Ok(());

@@ -51,7 +51,9 @@ fn read_end(fault: CallFault) -> LiveEnd
 
 /// Whether a view wants to be told something.
 fn wants_input(view: &LiveView) -> bool
-    ensures { (address : List ℕ) → MatchBool result (wanted (live_state address view.now).phase ≡ want.Input) (wanted (live_state address view.now).phase ≡ want.Input → ⊥) }
+    ensures { (address : List ℕ)
+        → MatchBool result (wanted (live_state address view.now).phase ≡ want.Input)
+        (wanted (live_state address view.now).phase ≡ want.Input → ⊥) }
 {
     match view.wanted() {
         LiveWant::Input => true,
@@ -87,9 +89,9 @@ fn turn_feed<N: Net, K: Feed, W: Sink>(
     requires few { lines < 64 }
     ensures live { IsLive view.new }
     ensures turned { Attends
-        (live_tells (feed_tells K.coming K.told K.faults) (output_tells W.written W.faults W.wants) (net_tells N.coming N.over N.asked N.faults N.lent N.link_counts)
-        (links_tell N.Conn.coming N.Conn.heard N.Conn.sent N.Conn.counts))
-        lines AreCounted (λ address. live_state address view.old) (λ address. live_state address view.new) result feed.old feed.new out.old out.new link.old link.new }
+        (live_tells (feed_tells K.Feed) (output_tells W.Sink) (net_tells N.Net) (links_tell N.Conn.Link))
+        lines AreCounted (λ address. live_state address view.old) (λ address.
+        live_state address view.new) result feed.old feed.new out.old out.new link.old link.new }
 {
     let told = match ask(feed) {
         Ok(told) => told,
@@ -100,11 +102,9 @@ fn turn_feed<N: Net, K: Feed, W: Sink>(
     };
     let behind = lines_behind(&input, lines);
     let answered = tell(view, &input, link, out);
-    drop(input);
-    match answered {
-        Ok(()) => Ok(behind),
-        Err(end) => Err(LiveEnd::View(end)),
-    }
+    drop(input); // for the prover
+    answered?;
+    Ok(behind)
 }
 
 /// A turn of the link. A link that is gone, and in whose place another one is wanted, is followed by some time.
@@ -118,22 +118,16 @@ fn turn_link<N: Net, K: Feed, W: Sink>(
     requires wants { (address : List ℕ) → WantsInput (live_state address view.old) }
     ensures live { IsLive view.new }
     ensures turned { (lines : ℕ) → 64 ≤ lines → Attends
-        (live_tells (feed_tells K.coming K.told K.faults) (output_tells W.written W.faults W.wants) (net_tells N.coming N.over N.asked N.faults N.lent N.link_counts)
-        (links_tell N.Conn.coming N.Conn.heard N.Conn.sent N.Conn.counts))
-        lines AreCounted (λ address. live_state address view.old) (λ address. live_state address view.new) result feed.old feed.new out.old out.new link.old link.new }
+        (live_tells (feed_tells K.Feed) (output_tells W.Sink) (net_tells N.Net) (links_tell N.Conn.Link))
+        lines AreCounted (λ address. live_state address view.old) (λ address.
+        live_state address view.new) result feed.old feed.new out.old out.new link.old link.new }
 {
-    let heard = match hear(link) {
-        Ok(heard) => heard,
-        Err(WantOfMemory) => return Err(LiveEnd::View(ViewEnd::WantOfMemory)),
-    };
+    let heard = hear(link)?;
     let before = view.holds();
     let input = LiveInput::Says(heard);
     let answered = tell(view, &input, link, out);
-    drop(input);
-    match answered {
-        Ok(()) => {}
-        Err(end) => return Err(LiveEnd::View(end)),
-    }
+    drop(input); // for the prover
+    answered?;
     pause_if(feed, before, view.holds());
     Ok(0)
 }
@@ -150,9 +144,9 @@ fn turn<N: Net, K: Feed, W: Sink>(
     requires wants { (address : List ℕ) → WantsInput (live_state address view.old) }
     ensures live { IsLive view.new }
     ensures turned { Attends
-        (live_tells (feed_tells K.coming K.told K.faults) (output_tells W.written W.faults W.wants) (net_tells N.coming N.over N.asked N.faults N.lent N.link_counts)
-        (links_tell N.Conn.coming N.Conn.heard N.Conn.sent N.Conn.counts))
-        lines AreCounted (λ address. live_state address view.old) (λ address. live_state address view.new) result feed.old feed.new out.old out.new link.old link.new }
+        (live_tells (feed_tells K.Feed) (output_tells W.Sink) (net_tells N.Net) (links_tell N.Conn.Link))
+        lines AreCounted (λ address. live_state address view.old) (λ address.
+        live_state address view.new) result feed.old feed.new out.old out.new link.old link.new }
 {
     if lines < MOST_LINES {
         return turn_feed::<N, K, W>(view, link, feed, out, lines);
@@ -172,19 +166,16 @@ fn attend<R: Wait, N: Net, K: Feed, W: Sink>(
     ensures live { IsLive view.new }
     ensures wants { (address : List ℕ) → OnOk result (wanted (live_state address view.new).phase ≡ want.Input → ⊥) }
     ensures turned { Attends
-        (live_tells (feed_tells K.coming K.told K.faults) (output_tells W.written W.faults W.wants) (net_tells N.coming N.over N.asked N.faults N.lent N.link_counts)
-        (links_tell N.Conn.coming N.Conn.heard N.Conn.sent N.Conn.counts))
-        0 AreAny (λ address. live_state address view.old) (λ address. live_state address view.new) result feed.old feed.new out.old out.new link.old link.new }
+        (live_tells (feed_tells K.Feed) (output_tells W.Sink) (net_tells N.Net) (links_tell N.Conn.Link))
+        0 AreAny (λ address. live_state address view.old) (λ address.
+        live_state address view.new) result feed.old feed.new out.old out.new link.old link.new }
 {
     let mut lines = 0;
     for _ in rt.forever() {
         if !wants_input(view) {
             return Ok(());
         }
-        match turn::<N, K, W>(view, link, feed, out, lines) {
-            Ok(behind) => lines = behind,
-            Err(end) => return Err(end),
-        }
+        lines = turn::<N, K, W>(view, link, feed, out, lines)?;
     }
     unreachable!()
 }
@@ -202,14 +193,11 @@ fn enter<R: Wait, N: Net, K: Feed, W: Sink>(
     ensures live { IsLive view.new }
     ensures wants { (address : List ℕ) → OnOk result (wanted (live_state address view.new).phase ≡ want.Input → ⊥) }
     ensures turned { Enters
-        (live_tells (feed_tells K.coming K.told K.faults) (output_tells W.written W.faults W.wants) (net_tells N.coming N.over N.asked N.faults N.lent N.link_counts)
-        (links_tell N.Conn.coming N.Conn.heard N.Conn.sent N.Conn.counts))
-        (λ address. live_state address view.old) (λ address. live_state address view.new) result feed.old feed.new out.old out.new link.old link.new }
+        (live_tells (feed_tells K.Feed) (output_tells W.Sink) (net_tells N.Net) (links_tell N.Conn.Link))
+        (λ address. live_state address view.old) (λ address.
+        live_state address view.new) result feed.old feed.new out.old out.new link.old link.new }
 {
-    match tell(view, &LiveInput::Linked, link, out) {
-        Ok(()) => {}
-        Err(end) => return Err(LiveEnd::View(end)),
-    }
+    tell(view, &LiveInput::Linked, link, out)?;
     attend::<R, N, K, W>(rt, view, link, feed, out)
 }
 
@@ -219,16 +207,17 @@ fn go_without<K: Feed>(view: &mut LiveView, feed: &mut K) -> Result<(), LiveEnd>
     requires wants { (address : List ℕ) → WantsLink (live_state address view.old) }
     ensures live { IsLive view.new }
     ensures wants { (address : List ℕ) → OnOk result (wanted (live_state address view.new).phase ≡ want.Input → ⊥) }
-    ensures told { (address : List ℕ) → OnOk result (StepsTo (live_state address view.old) tells.LinkFailed (live_state address view.new)) }
-    ensures paused { (address : List ℕ) → OnOk result (PausesBy (feed_tells K.coming K.told K.faults) (is_held (live_state address view.old).holds (live_state address view.old).phase tells.LinkFailed) feed.old feed.new) }
+    ensures told { (address : List ℕ)
+        → OnOk result (StepsTo (live_state address view.old) tells.LinkFailed (live_state address view.new)) }
+    ensures paused { (address : List ℕ)
+        → OnOk result (PausesBy (feed_tells K.Feed)
+        (is_held (live_state address view.old).holds (live_state address view.old).phase tells.LinkFailed) feed.old
+        feed.new) }
     ensures kept { OnErr result (feed.new ≡ feed.old) }
     ensures err { IfErr result (λ end. end ≡ LiveEnd.View ViewEnd.WantOfMemory) }
 {
     let before = view.holds();
-    match view.step(&LiveInput::LinkFailed) {
-        Ok(_) => {}
-        Err(WantOfMemory) => return Err(LiveEnd::View(ViewEnd::WantOfMemory)),
-    }
+    view.step(&LiveInput::LinkFailed)?;
     pause_if(feed, before, view.holds());
     Ok(())
 }
@@ -247,9 +236,9 @@ fn visit<R: Wait, N: Net, K: Feed, W: Sink>(
     ensures live { IsLive view.new }
     ensures wants { (address : List ℕ) → OnOk result (wanted (live_state address view.new).phase ≡ want.Input → ⊥) }
     ensures visited { Visits
-        (live_tells (feed_tells K.coming K.told K.faults) (output_tells W.written W.faults W.wants) (net_tells N.coming N.over N.asked N.faults N.lent N.link_counts)
-        (links_tell N.Conn.coming N.Conn.heard N.Conn.sent N.Conn.counts))
-        address.now (live_state address.now view.old) (live_state address.now view.new) result (live_outside feed.old out.old net.old None) (live_outside feed.new out.new net.new None) }
+        (live_tells (feed_tells K.Feed) (output_tells W.Sink) (net_tells N.Net) (links_tell N.Conn.Link))
+        address.now (live_state address.now view.old) (live_state address.now view.new) result
+        (live_outside feed.old out.old net.old None) (live_outside feed.new out.new net.new None) }
 {
     let mut link = match connect(net, address) {
         Ok(link) => link,
@@ -273,9 +262,9 @@ fn visit_links<R: Wait, N: Net, K: Feed, W: Sink>(
     requires live { IsLive view.old }
     requires wants { (address : List ℕ) → wanted (live_state address view.old).phase ≡ want.Input → ⊥ }
     ensures ran { LiveRan
-        (live_tells (feed_tells K.coming K.told K.faults) (output_tells W.written W.faults W.wants) (net_tells N.coming N.over N.asked N.faults N.lent N.link_counts)
-        (links_tell N.Conn.coming N.Conn.heard N.Conn.sent N.Conn.counts))
-        address.now (live_state address.now view.old) result (live_outside feed.old out.old net.old None) (live_outside feed.new out.new net.new None) }
+        (live_tells (feed_tells K.Feed) (output_tells W.Sink) (net_tells N.Net) (links_tell N.Conn.Link))
+        address.now (live_state address.now view.old) result (live_outside feed.old out.old net.old None)
+        (live_outside feed.new out.new net.new None) }
 {
     for _ in rt.forever() {
         match view.wanted() {
@@ -308,9 +297,9 @@ pub fn run_live<R: Wait, N: Net, K: Feed, W: Sink>(
     out: &mut W,
 ) -> LiveEnd
     ensures ran { LiveRan
-        (live_tells (feed_tells K.coming K.told K.faults) (output_tells W.written W.faults W.wants) (net_tells N.coming N.over N.asked N.faults N.lent N.link_counts)
-        (links_tell N.Conn.coming N.Conn.heard N.Conn.sent N.Conn.counts))
-        visit.now.address (first_state (founding_of (arc_value visit.now.program)) visit.now.id.0 visit.now.view visit.now.address)
+        (live_tells (feed_tells K.Feed) (output_tells W.Sink) (net_tells N.Net) (links_tell N.Conn.Link))
+        visit.now.address (first_state
+        (founding_of (arc_value visit.now.program)) visit.now.id.0 visit.now.view visit.now.address)
         result (live_outside feed.old out.old net.old None) (live_outside feed.new out.new net.new None) }
 {
     let Ok(program) = visit.program.clone() else {
@@ -321,6 +310,6 @@ pub fn run_live<R: Wait, N: Net, K: Feed, W: Sink>(
         Err(WantOfMemory) => return LiveEnd::View(ViewEnd::WantOfMemory),
     };
     let end = visit_links(rt, &mut view, &visit.address, net, feed, out);
-    drop(view);
+    drop(view); // for the prover
     end
 }

@@ -44,7 +44,7 @@ fn here_line(here: bool) -> &'static str
 
 /// Prints a text, and then whether the view has come to the entry by which it joined.
 fn print_both<W: Sink>(out: &mut W, text: &str, here: bool) -> Result<(), ViewEnd>
-    ensures { Prints (output_tells W.written W.faults W.wants) text.now (here_text here) result out.old out.new }
+    ensures { Prints (output_tells W.Sink) text.now (here_text here) result out.old out.new }
 {
     match print_some(out, text.as_bytes()) {
         Ok(()) => {}
@@ -58,8 +58,9 @@ fn print_both<W: Sink>(out: &mut W, text: &str, here: bool) -> Result<(), ViewEn
 
 /// Does what a view answers.
 fn answer<L: Link, W: Sink>(outcome: &LiveOutcome, link: &mut L, out: &mut W) -> Result<(), ViewEnd>
-    ensures { (t : LiveTold) → outcome.now.frames ≡ t.frames → string_bytes outcome.now.text ≡ t.text → outcome.now.here ≡ t.here
-        → Answers (output_tells W.written W.faults W.wants) (links_tell L.coming L.heard L.sent L.counts) t result out.old out.new link.old link.new }
+    ensures { (t : LiveTold) → outcome.now.frames ≡ t.frames → string_bytes outcome.now.text ≡ t.text
+        → outcome.now.here ≡ t.here
+        → Answers (output_tells W.Sink) (links_tell L.Link) t result out.old out.new link.old link.new }
 {
     match send_frames(link, outcome.frames.as_slice()) {
         Ok(()) => {}
@@ -77,15 +78,14 @@ pub fn tell<L: Link, W: Sink>(
 ) -> Result<(), ViewEnd>
     requires live { IsLive view.old }
     ensures live { IsLive view.new }
-    ensures state { (address : List ℕ) → OnOk result (StepsTo (live_state address view.old) input.now (live_state address view.new)) }
-    ensures told { (address : List ℕ) → AnswersOrNot (output_tells W.written W.faults W.wants) (links_tell L.coming L.heard L.sent L.counts)
+    ensures state { (address : List ℕ)
+        → OnOk result (StepsTo (live_state address view.old) input.now (live_state address view.new)) }
+    ensures told { (address : List ℕ)
+        → AnswersOrNot (output_tells W.Sink) (links_tell L.Link)
         (live_step (live_state address view.old) input.now) result out.old out.new link.old link.new }
 {
-    let outcome = match view.step(input) {
-        Ok(outcome) => outcome,
-        Err(WantOfMemory) => return Err(ViewEnd::WantOfMemory),
-    };
+    let outcome = view.step(input)?;
     let answered = answer(&outcome, link, out);
-    drop(outcome);
+    drop(outcome); // for the prover
     answered
 }

@@ -12,7 +12,12 @@ use Rattle.live_view.specs.Live.{Told, drive, waits}
 
 -- what was told so far, each frame of which fits the wire, and then this
 abbrev pub after : LiveOutcome → Told → Told
-after out t = record { frames = out.frames ++ t.frames; text = string_bytes out.text ++ t.text; fit = t.fit; phase = t.phase }
+after out t = record {
+  frames = out.frames ++ t.frames;
+  text = string_bytes out.text ++ t.text;
+  fit = t.fit;
+  phase = t.phase;
+}
 
 -- what is done, and the phase in which the view waits then
 pub record Tells (old new : LiveOutcome) (t : Told) (phase : Phase) : Type 0 where

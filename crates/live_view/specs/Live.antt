@@ -58,7 +58,12 @@ abbrev pub waits : Phase → Told
 waits p = record { frames = []; text = []; fit = true; phase = p }
 
 abbrev pub then_sends : ClientFrame → Told → Told
-then_sends frame t = record { frames = client_spelling frame ∷ t.frames; text = t.text; fit = fits_wire frame && t.fit; phase = t.phase }
+then_sends frame t = record {
+  frames = client_spelling frame ∷ t.frames;
+  text = t.text;
+  fit = fits_wire frame && t.fit;
+  phase = t.phase;
+}
 
 abbrev pub then_prints : List ℕ → Told → Told
 then_prints text t = record { frames = t.frames; text = text ++ t.text; fit = t.fit; phase = t.phase }
@@ -73,13 +78,15 @@ sends_all (frame ∷ frames) t = then_sends frame (sends_all frames t)
 abbrev pub still : (Viewer → Told) → Phase → Told
 still next (Printing v text) = then_prints text (next v)
 still next (PrintingLast text) = then_prints text (waits (Over ending.Done))
-still next (Leaving v text) = then_prints text (then_sends client.Leave (then_prints (view_line v.replica) (waits (Over ending.Done))))
+still next (Leaving v text) =
+    then_prints text (then_sends client.Leave (then_prints (view_line v.replica) (waits (Over ending.Done))))
 still next (Returning v how) = waits (Connecting v how)
 still next phase = waits phase
 
 -- from any phase
 abbrev pub drive : (Viewer → Told) → Phase → Told
-drive next (Sending v frame frames task) = sends_all (frame ∷ frames) (still next (begin_task (record v { receives = 0 }) task))
+drive next (Sending v frame frames task) =
+    sends_all (frame ∷ frames) (still next (begin_task (record v { receives = 0 }) task))
 drive next phase = still next phase
 
 -- No line is left: the view leaves if none will come. Else it rests: it hears its link as it does behind a line that publishes, and what
@@ -195,11 +202,17 @@ votes_in phase = 0
 
 -- with these lines, and the votes that are at work, no more events are published than a view may publish
 abbrev pub has_room : ℕ → Viewer → List PlainLine → Bool
-has_room votes v more = nat_le (published_count v.replica + votes + publish_count v.lines + publish_count more) most_publishes
+has_room votes v more = nat_le (published_count v.replica + votes + publish_count v.lines
+    + publish_count more) most_publishes
 
 -- the line of this number is none
 abbrev pub bad_line : ℕ → Phase → Told
-bad_line number phase = record { frames = []; text = numbers_line (codes "bad-line") (number ∷ []); fit = true; phase = phase }
+bad_line number phase = record {
+  frames = [];
+  text = numbers_line (codes "bad-line") (number ∷ []);
+  fit = true;
+  phase = phase;
+}
 
 abbrev pub if_room : Bool → ℕ → Phase → List PlainLine → Told
 if_room true number phase more = wakes false (more_lines phase more)
@@ -329,12 +342,25 @@ pub record LiveTold : Type 0 where
 abbrev pub arrives : Told → LiveState → LiveTold
 arrives t s =
     let arrived = has_arrived s.phase s.joined in
-    record { frames = t.frames; text = t.text; fit = t.fit; here = arrived; state = record s { joined = awaited arrived s.phase s.joined } }
+    record {
+      frames = t.frames;
+      text = t.text;
+      fit = t.fit;
+      here = arrived;
+      state = record s { joined = awaited arrived s.phase s.joined };
+    }
 
 abbrev pub live_step : LiveState → LiveInput → LiveTold
 live_step s told =
     let t = phase_step s told in
-    arrives t (record { phase = t.phase; closed = closes s.closed told; count = counts s.count told; holds = holds_after s told; joined = joined_in told s.phase s.joined; lost = false })
+    arrives t (record {
+      phase = t.phase;
+      closed = closes s.closed told;
+      count = counts s.count told;
+      holds = holds_after s told;
+      joined = joined_in told s.phase s.joined;
+      lost = false;
+    })
 
 -- what a live view wants next
 abbrev pub wanted : Phase → LiveWant
@@ -345,7 +371,12 @@ wanted phase = want.Input
 -- ---- all that it is told
 
 abbrev pub then_told : Told → Told → Told
-then_told first more = record { frames = first.frames ++ more.frames; text = first.text ++ more.text; fit = first.fit && more.fit; phase = more.phase }
+then_told first more = record {
+  frames = first.frames ++ more.frames;
+  text = first.text ++ more.text;
+  fit = first.fit && more.fit;
+  phase = more.phase;
+}
 
 abbrev pub told_in : LiveTold → Told
 told_in t = record { frames = t.frames; text = t.text; fit = t.fit; phase = t.state.phase }

@@ -30,6 +30,13 @@ rested_if false v = v
 abbrev pub rested_at : Place → Viewer → Viewer
 rested_at place v = rested_if (joined_at place) v
 
--- Memory was wanted outside of a step: the view wants a link, on which it joins for a world made anew. No line came, and none was closed.
+-- Memory was wanted outside of a step: the view wants a link, on which it joins for a world made anew. No line came, and none was closed. But for
+-- its replica it is who it was, and watches what it did.
 abbrev pub Forgets : LiveView → LiveView → Type 0
-Forgets old new = new ≡ record old { watcher = new.watcher; queue = new.queue; place = place.Unlinked Fresh; joined = None; lost = true }
+Forgets old new = new ≡ record old {
+  watcher = record old.watcher { replica = new.watcher.replica };
+  queue = new.queue;
+  place = place.Unlinked Fresh;
+  joined = None;
+  lost = true;
+}

@@ -14,7 +14,15 @@ use Rattle.live_view.specs.Live.{LiveState, live_run}
 
 -- a live view that was told nothing yet
 abbrev pub first_state : Founding → List ℕ → ℕ → List ℕ → LiveState
-first_state founding id view address = record { phase = first_phase founding id view address []; closed = false; count = 0; holds = 0; joined = None; lost = false }
+first_state founding id view address =
+    record {
+      phase = first_phase founding id view address [];
+      closed = false;
+      count = 0;
+      holds = 0;
+      joined = None;
+      lost = false;
+    }
 
 -- what the steps of a script were told, and what they sent and printed
 abbrev pub inputs_of : List Step → List LiveInput
@@ -62,15 +70,22 @@ ComeBeforeFrames [] links inputs = inputs ≡ links
 ComeBeforeFrames (line ∷ lines) links [] = ⊥
 ComeBeforeFrames (line ∷ lines) links (told ∷ inputs) =
     ((told ≡ line) × ComeBeforeFrames lines links inputs)
-    ⊎ ((rest : List LiveInput) × (links ≡ told ∷ rest) × IsBeforeFrames told × ComeBeforeFrames (line ∷ lines) rest inputs)
+    ⊎ ((rest : List LiveInput) × (links ≡ told ∷ rest) × IsBeforeFrames told
+    × ComeBeforeFrames (line ∷ lines) rest inputs)
 
 -- The lines come before the first frame, and then their end: before a link is there, or after it is, as in a run. Besides, the view is told what
 -- the links of a script of these lines tell. What it sends and prints is what that script sends and prints, wherever it waits or ends. The lines
 -- `here` are apart.
 abbrev pub LiveIsScript : Type 0
 LiveIsScript =
-    (founding : Founding) (id : List ℕ) (view : ℕ) (address : List ℕ) (texts : List (List ℕ)) (script : List PlainLine) (steps : List Step) (last : Phase) (inputs : List LiveInput)
+    (founding : Founding) (id : List ℕ) (view : ℕ) (address : List ℕ) (texts : List (List ℕ)) (script : List PlainLine)
+    (steps : List Step) (last : Phase) (inputs : List LiveInput)
     → read_in texts ≡ Some script → publish_count script ≤ most_publishes
     → Walks (first_phase founding id view address script) steps last → IsWaiting last
     → ComeBeforeFrames (map input.Line texts ++ input.Closed ∷ []) (inputs_of steps) inputs
-    → live_run (first_state founding id view address) inputs ≡ record { frames = sent_in steps; text = printed_in steps; fit = true; phase = last }
+    → live_run (first_state founding id view address) inputs ≡ record {
+      frames = sent_in steps;
+      text = printed_in steps;
+      fit = true;
+      phase = last;
+    }

@@ -49,7 +49,13 @@ pub record IsLive (view : LiveView) : Type 0 where
 
 -- what a step told: each frame fits the wire
 abbrev pub told_by : List ℕ → LiveOutcome → LiveView → LiveTold
-told_by address out view = record { frames = out.frames; text = string_bytes out.text; fit = true; here = out.here; state = live_state address view }
+told_by address out view = record {
+  frames = out.frames;
+  text = string_bytes out.text;
+  fit = true;
+  here = out.here;
+  state = live_state address view;
+}
 
 -- memory was wanted: the view wants a link, on which it joins for a world made anew
 pub record IsLost (view : LiveView) (old : LiveView) (told : LiveInput) : Type 0 where

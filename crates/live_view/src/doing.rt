@@ -1,5 +1,7 @@
 //! What a step sends and prints.
 ghost use Rattle.std.specs.Prelude.{◌≡◌, ◌<◌, ◌≤◌, ℕ, List, [], Some, None, IfOk, OnOk};
+ghost use Rattle.std.specs.List.{AllByRecursion};
+ghost use Rattle.wire_frames.specs.Frames.{FitsClient};
 ghost use Rattle.wire_frames.specs.declared.frame.ClientFrame.{ClientFrame as Frame};
 ghost use Rattle.replica_plain.specs.Calls.{gives, takes_out, unsent};
 ghost use Rattle.replica.specs.View.{with_plain};
@@ -14,23 +16,25 @@ use crate::input::{Goal, Place};
 use crate::outcome::LiveOutcome;
 use crate::texts::{settled_text, time_text};
 use tea_base::WantOfMemory;
-use view_shell::{
-    MOST_RECEIVES, ViewEnd, Watcher, has_caught_up, last_line, rest, shown_text, spelling,
-};
-use wire_frames::ClientFrame;
+use view_shell::{MOST_RECEIVES, ViewEnd, Watcher, has_caught_up, last_line, rest, shown_text};
+use wire_frames::{ClientFrame, typed_client, write_client};
 
-/// Sends a frame.
+/// Sends a frame that fits its fields.
 pub fn send(
     watcher: &mut Watcher,
     out: &mut LiveOutcome,
     frame: &ClientFrame,
 ) -> Result<(), WantOfMemory>
+    requires { FitsClient frame.now }
     ensures kept { watcher.new ≡ record watcher.old { receives = watcher.new.receives } }
     ensures sent { OnOk result (watcher.new.receives ≡ 0) }
     ensures knows { KnowsItself watcher.old → KnowsItself watcher.new }
-    ensures talk { (v : Viewer) (frames : List Frame) (task : Task) → OnOk result (Leads out.old out.new (Sending v frame.now frames task) (send_all (record v { receives = 0 }) frames task)) }
+    ensures talk { (v : Viewer) (frames : List Frame) (task : Task)
+        → OnOk result (Leads out.old out.new (Sending v frame.now frames task)
+        (send_all (record v { receives = 0 }) frames task)) }
 {
-    let bytes = spelling(watcher.alloc, frame)?;
+    typed_client(frame); // for the prover
+    let bytes = write_client(watcher.alloc, frame)?;
     out.frames.push(bytes)?;
     watcher.receives = 0;
     Ok(())
@@ -42,10 +46,13 @@ fn send_frames(
     out: &mut LiveOutcome,
     frames: &[ClientFrame],
 ) -> Result<(), WantOfMemory>
+    requires { AllByRecursion FitsClient frames.now }
     ensures kept { watcher.new ≡ record watcher.old { receives = watcher.new.receives } }
     ensures ready { IsReady watcher.old → OnOk result (IsReady watcher.new) }
     ensures knows { KnowsItself watcher.old → KnowsItself watcher.new }
-    ensures talk { (v : Viewer) (task : Task) → v.receives ≡ watcher.old.receives → OnOk result (Leads out.old out.new (send_all v frames.now task) (send_all (record v { receives = watcher.new.receives }) [] task)) }
+    ensures talk { (v : Viewer) (task : Task) → v.receives ≡ watcher.old.receives
+        → OnOk result (Leads out.old out.new (send_all v frames.now task)
+        (send_all (record v { receives = watcher.new.receives }) [] task)) }
 {
     for frame in frames {
         send(watcher, out, frame)?;
@@ -56,11 +63,13 @@ fn send_frames(
 /// Sends the events that were not given yet.
 pub fn send_unsent(watcher: &mut Watcher, out: &mut LiveOutcome) -> Result<(), WantOfMemory>
     ensures kept { watcher.new ≡ record watcher.old { receives = watcher.new.receives; replica = watcher.new.replica } }
-    ensures replica { OnOk result (watcher.new.replica ≡ with_plain watcher.old.replica (gives watcher.old.replica.plain)) }
+    ensures replica { OnOk result (watcher.new.replica
+        ≡ with_plain watcher.old.replica (gives watcher.old.replica.plain)) }
     ensures ready { IsReady watcher.old → OnOk result (IsReady watcher.new) }
     ensures knows { KnowsItself watcher.old → KnowsItself watcher.new }
     ensures talk { (address : List ℕ) (lines : List PlainLine) (task : Task) → OnOk result (Leads out.old out.new
-        (send_all (after_giving (viewer address watcher.old lines)) (unsent watcher.old.replica.plain) task) (send_all (viewer address watcher.new lines) [] task)) }
+        (send_all (after_giving (viewer address watcher.old lines)) (unsent watcher.old.replica.plain) task)
+        (send_all (viewer address watcher.new lines) [] task)) }
 {
     let frames = watcher.replica.unsent()?;
     send_frames(watcher, out, frames.as_slice())
@@ -72,7 +81,8 @@ pub fn stay_alive(watcher: &mut Watcher, out: &mut LiveOutcome) -> Result<(), Wa
     ensures kept { watcher.new ≡ record watcher.old { receives = watcher.new.receives } }
     ensures ready { OnOk result (IsReady watcher.new) }
     ensures knows { KnowsItself watcher.new }
-    ensures talk { (v : Viewer) (frames : List Frame) (task : Task) → v.receives ≡ watcher.old.receives → OnOk result (Leads out.old out.new
+    ensures talk { (v : Viewer) (frames : List Frame) (task : Task) → v.receives ≡ watcher.old.receives
+        → OnOk result (Leads out.old out.new
         (go_on v frames task) (send_all (record v { receives = watcher.new.receives }) frames task)) }
 {
     if watcher.receives != MOST_RECEIVES {
@@ -83,10 +93,15 @@ pub fn stay_alive(watcher: &mut Watcher, out: &mut LiveOutcome) -> Result<(), Wa
 
 /// The events that models published are told as they are handled, and then a text.
 pub fn tell(watcher: &mut Watcher, out: &mut LiveOutcome, text: &str) -> Result<(), WantOfMemory>
-    ensures kept { watcher.new ≡ record watcher.old { replica = with_plain watcher.old.replica (takes_out watcher.old.replica.plain) } }
+    ensures kept { watcher.new ≡ record watcher.old {
+      replica = with_plain watcher.old.replica
+          (takes_out watcher.old.replica.plain);
+    } }
     ensures ready { IsReady watcher.old → IsReady watcher.new }
     ensures knows { KnowsItself watcher.old → KnowsItself watcher.new }
-    ensures told { (address : List ℕ) (lines : List PlainLine) → OnOk result (Comes out.old out.new (finish (viewer address watcher.old lines) text.now) (viewer address watcher.new lines) None) }
+    ensures told { (address : List ℕ) (lines : List PlainLine)
+        → OnOk result (Comes out.old out.new (finish (viewer address watcher.old lines) text.now)
+        (viewer address watcher.new lines) None) }
 {
     let shown = shown_text(watcher, text)?;
     out.text.push_str(shown.as_str())?;
@@ -104,7 +119,9 @@ fn reach(
     ensures ready { OnOk result (IsReady watcher.new) }
     ensures knows { KnowsItself watcher.new }
     ensures waits { IfOk result (λ place. votes_at place ≡ 0) }
-    ensures told { (address : List ℕ) (lines : List PlainLine) → IfOk result (λ place. Comes out.old out.new (receive (viewer address watcher.old lines) (ToReach time)) (viewer address watcher.new lines) place) }
+    ensures told { (address : List ℕ) (lines : List PlainLine)
+        → IfOk result (λ place. Comes out.old out.new (receive (viewer address watcher.old lines) (ToReach time))
+        (viewer address watcher.new lines) place) }
 {
     let now = time_of(&watcher.replica);
     if time > now {
@@ -125,7 +142,9 @@ fn await_settled(
     ensures ready { OnOk result (IsReady watcher.new) }
     ensures knows { KnowsItself watcher.new }
     ensures waits { IfOk result (λ place. votes_at place ≡ 0) }
-    ensures told { (address : List ℕ) (lines : List PlainLine) → IfOk result (λ place. Comes out.old out.new (receive (viewer address watcher.old lines) ToSettle) (viewer address watcher.new lines) place) }
+    ensures told { (address : List ℕ) (lines : List PlainLine)
+        → IfOk result (λ place. Comes out.old out.new (receive (viewer address watcher.old lines) ToSettle)
+        (viewer address watcher.new lines) place) }
 {
     if !is_settled(&watcher.replica) {
         return Ok(Some(Place::Hears(Goal::Settle)));
@@ -142,7 +161,9 @@ fn catch_up(watcher: &mut Watcher, out: &mut LiveOutcome) -> Result<Option<Place
     ensures ready { OnOk result (IsReady watcher.new) }
     ensures knows { KnowsItself watcher.new }
     ensures waits { IfOk result (λ place. votes_at place ≡ 0) }
-    ensures told { (address : List ℕ) (lines : List PlainLine) → IfOk result (λ place. Comes out.old out.new (receive (viewer address watcher.old lines) ToCatchUp) (viewer address watcher.new lines) place) }
+    ensures told { (address : List ℕ) (lines : List PlainLine)
+        → IfOk result (λ place. Comes out.old out.new (receive (viewer address watcher.old lines) ToCatchUp)
+        (viewer address watcher.new lines) place) }
 {
     if !has_caught_up(&watcher.replica) {
         return Ok(Some(Place::Hears(Goal::CatchUp)));
@@ -162,7 +183,9 @@ pub fn await_goal(
     ensures ready { OnOk result (IsReady watcher.new) }
     ensures knows { KnowsItself watcher.new }
     ensures waits { IfOk result (λ place. votes_at place ≤ votes_for goal) }
-    ensures told { (address : List ℕ) (lines : List PlainLine) → IfOk result (λ place. Comes out.old out.new (receive (viewer address watcher.old lines) (aim_of goal)) (viewer address watcher.new lines) place) }
+    ensures told { (address : List ℕ) (lines : List PlainLine)
+        → IfOk result (λ place. Comes out.old out.new (receive (viewer address watcher.old lines) (aim_of goal))
+        (viewer address watcher.new lines) place) }
 {
     match goal {
         Goal::Join(_) => Ok(Some(Place::Hears(goal))),
@@ -180,7 +203,9 @@ pub fn leave(watcher: &mut Watcher, out: &mut LiveOutcome) -> Result<(), WantOfM
     ensures ready { OnOk result (IsReady watcher.new) }
     ensures knows { KnowsItself watcher.new }
     ensures count { OnOk result (watcher.new.published ≡ watcher.old.published) }
-    ensures told { (address : List ℕ) (lines : List PlainLine) → OnOk result (Comes out.old out.new (leave_session (viewer address watcher.old lines)) (viewer address watcher.new lines) (Some (Place.Gone ViewEnd.Done))) }
+    ensures told { (address : List ℕ) (lines : List PlainLine)
+        → OnOk result (Comes out.old out.new (leave_session (viewer address watcher.old lines))
+        (viewer address watcher.new lines) (Some (Place.Gone ViewEnd.Done))) }
 {
     match rest(watcher) {
         Ok(()) => {}

@@ -28,9 +28,11 @@ fn hear_on(
     requires heard { HasHeard watcher.old }
     ensures ready { OnOk result (IsReady watcher.new) }
     ensures knows { KnowsItself watcher.new }
-    ensures count { IfOk result (λ place. watcher.new.published + votes_at place ≤ watcher.old.published + votes_for goal) }
+    ensures count { IfOk result (λ place. watcher.new.published + votes_at place
+        ≤ watcher.old.published + votes_for goal) }
     ensures told { (address : List ℕ) (lines : List PlainLine) → IfOk result (λ place. Comes out.old out.new
-        (go_on (viewer address watcher.old lines) [] (Receives (aim_of goal))) (viewer address watcher.new lines) place) }
+        (go_on (viewer address watcher.old lines) [] (Receives (aim_of goal)))
+        (viewer address watcher.new lines) place) }
 {
     stay_alive(watcher, out)?;
     await_goal(watcher, out, goal)
@@ -45,9 +47,11 @@ fn snapped(
     requires heard { HasHeard watcher.old }
     ensures ready { OnOk result (IsReady watcher.new) }
     ensures knows { KnowsItself watcher.new }
-    ensures count { (votes : ℕ) → IfOk result (λ place. watcher.new.published + votes_at place ≤ watcher.old.published + votes) }
+    ensures count { (votes : ℕ) → IfOk result (λ place. watcher.new.published + votes_at place
+        ≤ watcher.old.published + votes) }
     ensures told { (address : List ℕ) (lines : List PlainLine) → IfOk result (λ place. Comes out.old out.new
-        (go_on (viewer address watcher.old lines) [] (TellsText (snapped_line time))) (viewer address watcher.new lines) place) }
+        (go_on (viewer address watcher.old lines) [] (TellsText (snapped_line time)))
+        (viewer address watcher.new lines) place) }
 {
     stay_alive(watcher, out)?;
     let text = snapped_text(watcher.alloc, time)?;
@@ -65,9 +69,11 @@ fn refused(
     requires heard { HasHeard watcher.old }
     ensures ready { OnOk result (IsReady watcher.new) }
     ensures knows { KnowsItself watcher.new }
-    ensures count { (votes : ℕ) → IfOk result (λ place. watcher.new.published + votes_at place ≤ watcher.old.published + votes) }
+    ensures count { (votes : ℕ) → IfOk result (λ place. watcher.new.published + votes_at place
+        ≤ watcher.old.published + votes) }
     ensures told { (address : List ℕ) (lines : List PlainLine) → IfOk result (λ place. Comes out.old out.new
-        (go_on (viewer address watcher.old lines) [] (TellsText (snap_refused_line code kept))) (viewer address watcher.new lines) place) }
+        (go_on (viewer address watcher.old lines) [] (TellsText (snap_refused_line code kept)))
+        (viewer address watcher.new lines) place) }
 {
     stay_alive(watcher, out)?;
     let text = refused_text(watcher.alloc, code, kept)?;
@@ -80,7 +86,8 @@ fn begun(watcher: &mut Watcher, out: &mut LiveOutcome) -> Result<Option<Place>, 
     requires heard { HasHeard watcher.old }
     ensures ready { OnOk result (IsReady watcher.new) }
     ensures knows { KnowsItself watcher.new }
-    ensures count { (votes : ℕ) → IfOk result (λ place. watcher.new.published + votes_at place ≤ watcher.old.published + votes) }
+    ensures count { (votes : ℕ) → IfOk result (λ place. watcher.new.published + votes_at place
+        ≤ watcher.old.published + votes) }
     ensures told { (address : List ℕ) (lines : List PlainLine) → IfOk result (λ place. Comes out.old out.new
         (go_on (viewer address watcher.old lines) [] Begins) (viewer address watcher.new lines) place) }
 {
@@ -98,9 +105,11 @@ fn rejoined(
     requires heard { HasHeard watcher.old }
     ensures ready { OnOk result (IsReady watcher.new) }
     ensures knows { KnowsItself watcher.new }
-    ensures count { (votes : ℕ) → IfOk result (λ place. watcher.new.published + votes_at place ≤ watcher.old.published + votes) }
+    ensures count { (votes : ℕ) → IfOk result (λ place. watcher.new.published + votes_at place
+        ≤ watcher.old.published + votes) }
     ensures told { (address : List ℕ) (lines : List PlainLine) → IfOk result (λ place. Comes out.old out.new
-        (after_sync (viewer address watcher.old lines) How.Resume joined from) (viewer address watcher.new lines) place) }
+        (after_sync (viewer address watcher.old lines) How.Resume joined from)
+        (viewer address watcher.new lines) place) }
 {
     stay_alive(watcher, out)?;
     send_unsent(watcher, out)?;
@@ -120,7 +129,8 @@ fn synced(
     requires heard { HasHeard watcher.old }
     ensures ready { OnOk result (IsReady watcher.new) }
     ensures knows { KnowsItself watcher.new }
-    ensures count { (votes : ℕ) → IfOk result (λ place. watcher.new.published + votes_at place ≤ watcher.old.published + votes) }
+    ensures count { (votes : ℕ) → IfOk result (λ place. watcher.new.published + votes_at place
+        ≤ watcher.old.published + votes) }
     ensures told { (address : List ℕ) (lines : List PlainLine) → IfOk result (λ place. Comes out.old out.new
         (after_sync (viewer address watcher.old lines) how joined from) (viewer address watcher.new lines) place) }
 {
@@ -140,7 +150,8 @@ fn give_vote(
     requires heard { HasHeard watcher.old }
     ensures ready { OnOk result (IsReady watcher.new) }
     ensures knows { KnowsItself watcher.new }
-    ensures count { (votes : ℕ) → IfOk result (λ place. watcher.new.published + votes_at place ≤ watcher.old.published + votes) }
+    ensures count { (votes : ℕ) → IfOk result (λ place. watcher.new.published + votes_at place
+        ≤ watcher.old.published + votes) }
     ensures told { (address : List ℕ) (lines : List PlainLine) → IfOk result (λ place. Comes out.old out.new
         (give_vote (viewer address watcher.old lines) at) (viewer address watcher.new lines) place) }
 {
@@ -184,7 +195,8 @@ fn seen_on(
     ensures knows { KnowsItself watcher.new }
     ensures count { IfOk result (λ place. watcher.new.published + votes_at place ≤ watcher.old.published + 1) }
     ensures told { (address : List ℕ) (lines : List PlainLine) → IfOk result (λ place. Comes out.old out.new
-        (after_entry (nat_le at watcher.old.replica.plain.seen) (viewer address watcher.old lines) at) (viewer address watcher.new lines) place) }
+        (after_entry (nat_le at watcher.old.replica.plain.seen) (viewer address watcher.old lines) at)
+        (viewer address watcher.new lines) place) }
 {
     let seen = seen_of(&watcher.replica);
     if at <= seen {
@@ -204,9 +216,11 @@ fn behind(
     requires room { watcher.old.published + votes_for goal ≤ most_publishes }
     ensures ready { OnOk result (IsReady watcher.new) }
     ensures knows { KnowsItself watcher.new }
-    ensures count { IfOk result (λ place. watcher.new.published + votes_at place ≤ watcher.old.published + votes_for goal) }
+    ensures count { IfOk result (λ place. watcher.new.published + votes_at place
+        ≤ watcher.old.published + votes_for goal) }
     ensures told { (address : List ℕ) (lines : List PlainLine) → IfOk result (λ place. Comes out.old out.new
-        (after_frame (viewer address watcher.old lines) (aim_of goal) frame.now) (viewer address watcher.new lines) place) }
+        (after_frame (viewer address watcher.old lines) (aim_of goal) frame.now)
+        (viewer address watcher.new lines) place) }
 {
     match goal {
         Goal::Join(how) => match frame {
@@ -280,9 +294,11 @@ pub fn hear_frame(
     requires room { watcher.old.published + votes_for goal ≤ most_publishes }
     ensures ready { IfOk result (λ place. IsReadyAt place watcher.new) }
     ensures knows { KnowsItself watcher.new }
-    ensures count { IfOk result (λ place. watcher.new.published + votes_at place ≤ watcher.old.published + votes_for goal) }
+    ensures count { IfOk result (λ place. watcher.new.published + votes_at place
+        ≤ watcher.old.published + votes_for goal) }
     ensures told { (address : List ℕ) (lines : List PlainLine) → IfOk result (λ place. Comes out.old out.new
-        (reads (heard_frame (viewer address watcher.old lines)) (aim_of goal) (whole server_at bytes.now)) (viewer address watcher.new lines) place) }
+        (reads (heard_frame (viewer address watcher.old lines)) (aim_of goal) (whole server_at bytes.now))
+        (viewer address watcher.new lines) place) }
 {
     watcher.receives += 1;
     watcher.quiets = 0;
@@ -302,9 +318,11 @@ pub fn hear_quiet(
     requires ready { IsReady watcher.old }
     ensures ready { IfOk result (λ place. IsReadyAt place watcher.new) }
     ensures knows { KnowsItself watcher.new }
-    ensures count { IfOk result (λ place. watcher.new.published + votes_at place ≤ watcher.old.published + votes_for goal) }
+    ensures count { IfOk result (λ place. watcher.new.published + votes_at place
+        ≤ watcher.old.published + votes_for goal) }
     ensures told { (address : List ℕ) (lines : List PlainLine) → IfOk result (λ place. Comes out.old out.new
-        (quiet (heard_quiet (viewer address watcher.old lines)) (aim_of goal)) (viewer address watcher.new lines) place) }
+        (quiet (heard_quiet (viewer address watcher.old lines)) (aim_of goal))
+        (viewer address watcher.new lines) place) }
 {
     watcher.receives += 1;
     watcher.quiets += 1;

@@ -31,7 +31,8 @@ pub fn join(watcher: &mut Watcher, out: &mut LiveOutcome, how: How) -> Result<()
     ensures knows { KnowsItself watcher.new }
     ensures count { OnOk result (watcher.new.published ≡ watcher.old.published) }
     ensures told { (address : List ℕ) (lines : List PlainLine) → OnOk result (Comes out.old out.new
-        (enter_session (viewer address watcher.old lines) how) (viewer address watcher.new lines) (Some (Place.Hears (Goal.Join how)))) }
+        (enter_session (viewer address watcher.old lines) how) (viewer address watcher.new lines)
+        (Some (Place.Hears (Goal.Join how)))) }
 {
     if !may_join(&watcher.replica, how) {
         return Err(WantOfMemory);

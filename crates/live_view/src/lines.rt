@@ -44,7 +44,8 @@ fn publish(
     ensures count { OnOk result (watcher.new.published ≡ watcher.old.published + 1) }
     ensures waits { IfOk result (λ place. votes_at place ≡ 0) }
     ensures told { (address : List ℕ) (lines : List PlainLine) → IfOk result (λ place. Comes out.old out.new
-        (run (viewer address watcher.old (Publish scope.now event.now (plain value.now) ∷ lines)) (Publish scope.now event.now (plain value.now) ∷ lines)) (viewer address watcher.new lines) place) }
+        (run (viewer address watcher.old (Publish scope.now event.now (plain value.now) ∷ lines))
+        (Publish scope.now event.now (plain value.now) ∷ lines)) (viewer address watcher.new lines) place) }
 {
     match put_event(watcher, scope, event, value) {
         Ok(()) => {}
@@ -67,7 +68,8 @@ fn watch(
     ensures knows { KnowsItself watcher.new }
     ensures count { OnOk result (watcher.new.published ≡ watcher.old.published) }
     ensures told { (address : List ℕ) (lines : List PlainLine) → OnOk result (Comes out.old out.new
-        (run (viewer address watcher.old (Watch scope.now event.now handling ∷ lines)) (Watch scope.now event.now handling ∷ lines)) (viewer address watcher.new lines) None) }
+        (run (viewer address watcher.old (Watch scope.now event.now handling ∷ lines))
+        (Watch scope.now event.now handling ∷ lines)) (viewer address watcher.new lines) None) }
 {
     let scope = scope.try_clone()?;
     let event = event.try_clone()?;
@@ -83,7 +85,9 @@ fn offer(watcher: &mut Watcher, out: &mut LiveOutcome) -> Result<Option<Place>, 
     ensures count { OnOk result (watcher.new.published ≡ watcher.old.published) }
     ensures waits { IfOk result (λ place. votes_at place ≡ 0) }
     ensures told { (address : List ℕ) (lines : List PlainLine) → IfOk result (λ place. Comes out.old out.new
-        (Sending (viewer address watcher.old lines) (snap_frame (worlds_of watcher.old.replica) watcher.old.replica.plain) [] (Receives ToSnap)) (viewer address watcher.new lines) place) }
+        (Sending (viewer address watcher.old lines)
+        (snap_frame (worlds_of watcher.old.replica) watcher.old.replica.plain) [] (Receives ToSnap))
+        (viewer address watcher.new lines) place) }
 {
     let frame = match snap_frame(watcher) {
         Ok(frame) => frame,
@@ -119,7 +123,8 @@ fn wait_for(
     ensures count { OnOk result (watcher.new.published ≡ watcher.old.published) }
     ensures waits { IfOk result (λ place. votes_at place ≡ 0) }
     ensures told { (address : List ℕ) (lines : List PlainLine) → IfOk result (λ place. Comes out.old out.new
-        (run (viewer address watcher.old (WaitFor span ∷ lines)) (WaitFor span ∷ lines)) (viewer address watcher.new lines) place) }
+        (run (viewer address watcher.old (WaitFor span ∷ lines)) (WaitFor span ∷ lines))
+        (viewer address watcher.new lines) place) }
 {
     let time = time_after(&watcher.replica, span);
     await_goal(watcher, out, Goal::Reach(time))
@@ -132,7 +137,8 @@ fn mark(watcher: &mut Watcher, out: &mut LiveOutcome, word: &Text) -> Result<(),
     ensures knows { KnowsItself watcher.new }
     ensures count { OnOk result (watcher.new.published ≡ watcher.old.published) }
     ensures told { (address : List ℕ) (lines : List PlainLine) → OnOk result (Comes out.old out.new
-        (run (viewer address watcher.old (Mark word.now ∷ lines)) (Mark word.now ∷ lines)) (viewer address watcher.new lines) None) }
+        (run (viewer address watcher.old (Mark word.now ∷ lines)) (Mark word.now ∷ lines))
+        (viewer address watcher.new lines) None) }
 {
     let text = mark_line(watcher.alloc, word)?;
     tell(watcher, out, text.as_str())
@@ -200,9 +206,11 @@ pub fn run_line(
     requires room { watcher.old.published + line_publishes (plain_line line.now) ≤ most_publishes }
     ensures ready { OnOk result (IsReady watcher.new) }
     ensures knows { KnowsItself watcher.new }
-    ensures count { IfOk result (λ place. watcher.new.published + votes_at place ≤ watcher.old.published + line_publishes (plain_line line.now)) }
+    ensures count { IfOk result (λ place. watcher.new.published + votes_at place
+        ≤ watcher.old.published + line_publishes (plain_line line.now)) }
     ensures told { (address : List ℕ) (lines : List PlainLine) → IfOk result (λ place. Comes out.old out.new
-        (run (viewer address watcher.old (plain_line line.now ∷ lines)) (plain_line line.now ∷ lines)) (viewer address watcher.new lines) place) }
+        (run (viewer address watcher.old (plain_line line.now ∷ lines)) (plain_line line.now ∷ lines))
+        (viewer address watcher.new lines) place) }
 {
     match line {
         ViewLine::Publish {

@@ -45,14 +45,14 @@ fn rest_joined(watcher: &mut Watcher, place: Place) -> Result<(), WantOfMemory>
     ensures ready { OnOk result (IsReadyAt (Some place) watcher.new) }
     ensures knows { KnowsItself watcher.new }
     ensures kept { watcher.new ≡ record watcher.old { replica = watcher.new.replica } }
-    ensures rests { OnOk result ((address : List ℕ) (lines : List PlainLine) → viewer address watcher.new lines ≡ rested_at place (viewer address watcher.old lines)) }
+    ensures rests { OnOk result ((address : List ℕ) (lines : List PlainLine)
+        → viewer address watcher.new lines ≡ rested_at place (viewer address watcher.old lines)) }
 {
     if !joined_at(place) {
         return Ok(());
     }
     match rest(watcher) {
         Ok(()) => {}
-        // A view that has joined rests, but for want of memory.
         Err(_) => return Err(WantOfMemory),
     }
     Ok(())
@@ -65,8 +65,10 @@ fn rested_text(watcher: &mut Watcher, place: Place) -> Result<String, WantOfMemo
     ensures ready { OnOk result (IsReadyAt (Some place) watcher.new) }
     ensures knows { KnowsItself watcher.new }
     ensures kept { watcher.new ≡ record watcher.old { replica = watcher.new.replica } }
-    ensures rests { (address : List ℕ) (lines : List PlainLine) → OnOk result (viewer address watcher.new lines ≡ rested_at place (viewer address watcher.old lines)) }
-    ensures text { (address : List ℕ) (lines : List PlainLine) → IfOk result (λ text. string_bytes text ≡ text_of_world (viewer address watcher.new lines)) }
+    ensures rests { (address : List ℕ) (lines : List PlainLine)
+        → OnOk result (viewer address watcher.new lines ≡ rested_at place (viewer address watcher.old lines)) }
+    ensures text { (address : List ℕ) (lines : List PlainLine)
+        → IfOk result (λ text. string_bytes text ≡ text_of_world (viewer address watcher.new lines)) }
 {
     rest_joined(watcher, place)?;
     world_text(watcher)
@@ -105,8 +107,12 @@ impl LiveView {
         ensures live { IsLive self.new }
         ensures kept { OnOk result (self.new ≡ record self.old { watcher = self.new.watcher }) }
         ensures whole { OnOk result (self.old.lost ≡ false) }
-        ensures rests { (address : List ℕ) → OnOk result (viewer address self.new.watcher (left self.new) ≡ rested_at self.old.place (viewer address self.old.watcher (left self.old))) }
-        ensures text { (address : List ℕ) → IfOk result (λ text. string_bytes text ≡ text_of_world (rested_at self.old.place (viewer address self.old.watcher (left self.old)))) }
+        ensures rests { (address : List ℕ)
+            → OnOk result (viewer address self.new.watcher (left self.new)
+            ≡ rested_at self.old.place (viewer address self.old.watcher (left self.old))) }
+        ensures text { (address : List ℕ)
+            → IfOk result (λ text. string_bytes text
+            ≡ text_of_world (rested_at self.old.place (viewer address self.old.watcher (left self.old)))) }
         ensures err { OnErr result (Forgets self.old self.new) }
     {
         if self.lost {

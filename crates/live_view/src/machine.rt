@@ -107,7 +107,9 @@ impl LiveView {
         view: u32,
     ) -> Result<LiveView, WantOfMemory>
         ensures live { IfOk result (λ live. IsLive live) }
-        ensures first { (address : List ℕ) → IfOk result (λ live. live_state address live ≡ first_state (founding_of (arc_value program)) id.0 view address) }
+        ensures first { (address : List ℕ)
+            → IfOk result (λ live. live_state address live
+            ≡ first_state (founding_of (arc_value program)) id.0 view address) }
     {
         let own = program.clone()?;
         let replica = Replica::found(alloc, own, id, view)?;
@@ -169,7 +171,8 @@ impl LiveView {
     pub fn step(&mut self, input: &LiveInput) -> Result<LiveOutcome, WantOfMemory>
         requires live { IsLive self.old }
         ensures live { IsLive self.new }
-        ensures ok { (address : List ℕ) → IfOk result (λ out. told_by address out self.new ≡ live_step (live_state address self.old) input.now) }
+        ensures ok { (address : List ℕ)
+            → IfOk result (λ out. told_by address out self.new ≡ live_step (live_state address self.old) input.now) }
         ensures err { OnErr result (IsLost self.new self.old input.now) }
         ensures wants { self.old.lost ≡ true → (input.now ≡ tells.Linked → ⊥) → OnOk result ⊥ }
     {
@@ -196,10 +199,14 @@ impl LiveView {
         ensures count { self.new.count ≡ counts self.old.count input.now }
         ensures whole { OnOk result (self.new.lost ≡ false) }
         ensures wants { self.old.lost ≡ true → (input.now ≡ tells.Linked → ⊥) → OnOk result ⊥ }
-        ensures holds { (address : List ℕ) → OnOk result (self.new.holds ≡ holds_after (live_state address self.old) input.now) }
+        ensures holds { (address : List ℕ)
+            → OnOk result (self.new.holds ≡ holds_after (live_state address self.old) input.now) }
         ensures held { OnErr result (self.new.holds ≡ self.old.holds) }
-        ensures joined { (address : List ℕ) → OnOk result (self.new.joined ≡ joined_in input.now (live_state address self.old).phase self.old.joined) }
-        ensures told { (address : List ℕ) → OnOk result (Tells out.old out.new (phase_step (live_state address self.old) input.now) (live_state address self.new).phase) }
+        ensures joined { (address : List ℕ)
+            → OnOk result (self.new.joined ≡ joined_in input.now (live_state address self.old).phase self.old.joined) }
+        ensures told { (address : List ℕ)
+            → OnOk result (Tells out.old out.new (phase_step (live_state address self.old) input.now)
+            (live_state address self.new).phase) }
     {
         match input {
             LiveInput::Linked => self.link(out),
@@ -215,9 +222,17 @@ impl LiveView {
         requires live { IsLive self.old }
         ensures live { OnOk result (IsLive self.new) }
         ensures knows { KnowsItself self.new.watcher }
-        ensures kept { self.new ≡ record self.old { watcher = self.new.watcher; queue = self.new.queue; place = self.new.place; lost = self.new.lost } }
+        ensures kept { self.new ≡ record self.old {
+          watcher = self.new.watcher;
+          queue = self.new.queue;
+          place = self.new.place;
+          lost = self.new.lost;
+        } }
         ensures whole { OnOk result (self.new.lost ≡ false) }
-        ensures told { (address : List ℕ) → OnOk result (Tells out.old out.new (link_step self.old.closed (revived self.old.lost (live_state address self.old).phase)) (live_state address self.new).phase) }
+        ensures told { (address : List ℕ)
+            → OnOk result (Tells out.old out.new
+            (link_step self.old.closed (revived self.old.lost (live_state address self.old).phase))
+            (live_state address self.new).phase) }
     {
         match self.place {
             Place::Unlinked(how) => self.enter(how, out),
@@ -244,9 +259,18 @@ impl LiveView {
         requires live { IsLive self.old }
         ensures live { OnOk result (IsLive self.new) }
         ensures knows { KnowsItself self.new.watcher }
-        ensures kept { self.new ≡ record self.old { watcher = self.new.watcher; queue = self.new.queue; place = self.new.place; lost = self.new.lost } }
+        ensures kept { self.new ≡ record self.old {
+          watcher = self.new.watcher;
+          queue = self.new.queue;
+          place = self.new.place;
+          lost = self.new.lost;
+        } }
         ensures whole { OnOk result (self.new.lost ≡ false) }
-        ensures told { (address : List ℕ) → OnOk result (Tells out.old out.new (drives self.old.closed (enter_session (viewer address self.old.watcher (lines_kept self.old.lost (left self.old))) how)) (live_state address self.new).phase) }
+        ensures told { (address : List ℕ)
+            → OnOk result (Tells out.old out.new
+            (drives self.old.closed (enter_session
+            (viewer address self.old.watcher (lines_kept self.old.lost (left self.old))) how))
+            (live_state address self.new).phase) }
     {
         self.revive()?;
         join(&mut self.watcher, out, how)?;
@@ -260,12 +284,26 @@ impl LiveView {
         requires live { IsLive self.old }
         ensures live { OnOk result (IsLive self.new) }
         ensures knows { KnowsItself self.new.watcher }
-        ensures kept { self.new ≡ record self.old { watcher = self.new.watcher; queue = self.new.queue; place = self.new.place; holds = self.new.holds; joined = self.new.joined } }
+        ensures kept { self.new ≡ record self.old {
+          watcher = self.new.watcher;
+          queue = self.new.queue;
+          place = self.new.place;
+          holds = self.new.holds;
+          joined = self.new.joined;
+        } }
         ensures whole { OnOk result (self.new.lost ≡ false) }
-        ensures holds { (address : List ℕ) → OnOk result (self.new.holds ≡ one_fewer (is_held self.old.holds (live_state address self.old).phase (tells.Says heard.now)) self.old.holds) }
+        ensures holds { (address : List ℕ)
+            → OnOk result (self.new.holds
+            ≡ one_fewer (is_held self.old.holds (live_state address self.old).phase (tells.Says heard.now))
+            self.old.holds) }
         ensures held { OnErr result (self.new.holds ≡ self.old.holds) }
-        ensures joined { (address : List ℕ) → OnOk result (self.new.joined ≡ joined_in (tells.Says heard.now) (live_state address self.old).phase self.old.joined) }
-        ensures told { (address : List ℕ) → OnOk result (Tells out.old out.new (heard_step self.old.closed self.old.holds (live_state address self.old).phase heard.now) (live_state address self.new).phase) }
+        ensures joined { (address : List ℕ)
+            → OnOk result (self.new.joined
+            ≡ joined_in (tells.Says heard.now) (live_state address self.old).phase self.old.joined) }
+        ensures told { (address : List ℕ)
+            → OnOk result (Tells out.old out.new
+            (heard_step self.old.closed self.old.holds (live_state address self.old).phase heard.now)
+            (live_state address self.new).phase) }
     {
         if self.lost {
             return Err(WantOfMemory);
@@ -280,7 +318,8 @@ impl LiveView {
     /// Whether the view holds on, where its link said this.
     fn holds_on(&self, heard: &Heard) -> bool
         requires ready { IsReady self.now.watcher }
-        ensures held { (address : List ℕ) → result ≡ holds_on self.now.holds (viewer address self.now.watcher (left self.now)) heard.now }
+        ensures held { (address : List ℕ)
+            → result ≡ holds_on self.now.holds (viewer address self.now.watcher (left self.now)) heard.now }
         ensures many { IsTrue result → 0 < self.now.holds }
     {
         if self.holds > 0 {
@@ -302,11 +341,24 @@ impl LiveView {
         requires lines { HasLines (self.old.watcher.published + votes_for goal) self.old.queue }
         ensures live { OnOk result (IsLive self.new) }
         ensures knows { KnowsItself self.new.watcher }
-        ensures kept { self.new ≡ record self.old { watcher = self.new.watcher; queue = self.new.queue; place = self.new.place; holds = self.new.holds; joined = self.new.joined } }
-        ensures holds { (address : List ℕ) → OnOk result (self.new.holds ≡ one_fewer (holds_on self.old.holds (viewer address self.old.watcher (left self.old)) heard.now) self.old.holds) }
+        ensures kept { self.new ≡ record self.old {
+          watcher = self.new.watcher;
+          queue = self.new.queue;
+          place = self.new.place;
+          holds = self.new.holds;
+          joined = self.new.joined;
+        } }
+        ensures holds { (address : List ℕ)
+            → OnOk result (self.new.holds
+            ≡ one_fewer (holds_on self.old.holds (viewer address self.old.watcher (left self.old)) heard.now)
+            self.old.holds) }
         ensures held { OnErr result (self.new.holds ≡ self.old.holds) }
         ensures joined { OnOk result (self.new.joined ≡ entry_or (entry_in (aim_of goal) heard.now) self.old.joined) }
-        ensures told { (address : List ℕ) → OnOk result (Tells out.old out.new (heard_by (holds_on self.old.holds (viewer address self.old.watcher (left self.old)) heard.now) self.old.closed (viewer address self.old.watcher (left self.old)) (aim_of goal) heard.now) (live_state address self.new).phase) }
+        ensures told { (address : List ℕ)
+            → OnOk result (Tells out.old out.new
+            (heard_by (holds_on self.old.holds (viewer address self.old.watcher (left self.old)) heard.now)
+            self.old.closed (viewer address self.old.watcher (left self.old)) (aim_of goal) heard.now)
+            (live_state address self.new).phase) }
     {
         if self.holds_on(heard) {
             return self.hold_on(goal);
@@ -341,10 +393,17 @@ impl LiveView {
         requires many { 0 < self.old.holds }
         requires lines { HasLines (self.old.watcher.published + votes_for goal) self.old.queue }
         ensures live { OnOk result (IsLive self.new) }
-        ensures kept { self.new ≡ record self.old { queue = self.new.queue; place = self.new.place; holds = self.new.holds } }
+        ensures kept { self.new ≡ record self.old {
+          queue = self.new.queue;
+          place = self.new.place;
+          holds = self.new.holds;
+        } }
         ensures holds { OnOk result (self.new.holds ≡ one_fewer true self.old.holds) }
         ensures held { OnErr result (self.new.holds ≡ self.old.holds) }
-        ensures told { (address : List ℕ) (out : LiveOutcome) → OnOk result (Tells out out (waits (held_on (viewer address self.old.watcher (left self.old)) (aim_of goal))) (live_state address self.new).phase) }
+        ensures told { (address : List ℕ) (out : LiveOutcome)
+            → OnOk result (Tells out out
+            (waits (held_on (viewer address self.old.watcher (left self.old)) (aim_of goal)))
+            (live_state address self.new).phase) }
     {
         self.put_back(goal)?;
         self.place = Place::Unlinked(join_behind(goal));
@@ -359,9 +418,13 @@ impl LiveView {
         ensures knows { KnowsItself self.new.watcher }
         ensures kept { self.new ≡ record self.old { place = self.new.place; holds = self.new.holds } }
         ensures whole { OnOk result (self.new.lost ≡ false) }
-        ensures holds { (address : List ℕ) → OnOk result (self.new.holds ≡ one_fewer (is_held self.old.holds (live_state address self.old).phase tells.LinkFailed) self.old.holds) }
+        ensures holds { (address : List ℕ)
+            → OnOk result (self.new.holds
+            ≡ one_fewer (is_held self.old.holds (live_state address self.old).phase tells.LinkFailed) self.old.holds) }
         ensures held { OnErr result (self.new.holds ≡ self.old.holds) }
-        ensures told { (address : List ℕ) → OnOk result ((live_state address self.new).phase ≡ unlinked_by (nat_lt 0 self.old.holds) (live_state address self.old).phase) }
+        ensures told { (address : List ℕ)
+            → OnOk result ((live_state address self.new).phase
+            ≡ unlinked_by (nat_lt 0 self.old.holds) (live_state address self.old).phase) }
     {
         if self.lost {
             return Err(WantOfMemory);
@@ -393,9 +456,17 @@ impl LiveView {
         requires lines { HasLines (self.old.watcher.published + votes_for goal) self.old.queue }
         ensures live { OnOk result (IsLive self.new) }
         ensures knows { KnowsItself self.new.watcher }
-        ensures kept { self.new ≡ record self.old { watcher = self.new.watcher; queue = self.new.queue; place = self.new.place; joined = self.new.joined } }
+        ensures kept { self.new ≡ record self.old {
+          watcher = self.new.watcher;
+          queue = self.new.queue;
+          place = self.new.place;
+          joined = self.new.joined;
+        } }
         ensures joined { OnOk result (self.new.joined ≡ entry_or (entry_in (aim_of goal) heard.now) self.old.joined) }
-        ensures told { (address : List ℕ) → OnOk result (Tells out.old out.new (drives self.old.closed (hears (viewer address self.old.watcher (left self.old)) (aim_of goal) heard.now)) (live_state address self.new).phase) }
+        ensures told { (address : List ℕ)
+            → OnOk result (Tells out.old out.new
+            (drives self.old.closed (hears (viewer address self.old.watcher (left self.old)) (aim_of goal) heard.now))
+            (live_state address self.new).phase) }
     {
         let joined = joined_as(self.watcher.alloc, goal, heard)?;
         let place = hear(&mut self.watcher, out, goal, heard)?;
@@ -412,8 +483,15 @@ impl LiveView {
         requires whole { self.old.lost ≡ false }
         ensures live { OnOk result (IsLive self.new) }
         ensures knows { KnowsItself self.new.watcher }
-        ensures kept { self.new ≡ record self.old { watcher = self.new.watcher; queue = self.new.queue; place = self.new.place } }
-        ensures told { (address : List ℕ) → OnOk result (Tells out.old out.new (came (λ v. goes_on self.old.closed v) (viewer address self.old.watcher (left self.old)) place) (live_state address self.new).phase) }
+        ensures kept { self.new ≡ record self.old {
+          watcher = self.new.watcher;
+          queue = self.new.queue;
+          place = self.new.place;
+        } }
+        ensures told { (address : List ℕ)
+            → OnOk result (Tells out.old out.new
+            (came (λ v. goes_on self.old.closed v) (viewer address self.old.watcher (left self.old)) place)
+            (live_state address self.new).phase) }
     {
         match place {
             None => self.advance(out),
@@ -431,8 +509,15 @@ impl LiveView {
         requires whole { self.old.lost ≡ false }
         ensures live { OnOk result (IsLive self.new) }
         ensures knows { KnowsItself self.new.watcher }
-        ensures kept { self.new ≡ record self.old { watcher = self.new.watcher; queue = self.new.queue; place = self.new.place } }
-        ensures told { (address : List ℕ) → OnOk result (Tells out.old out.new (goes_on self.old.closed (viewer address self.old.watcher (left self.old))) (live_state address self.new).phase) }
+        ensures kept { self.new ≡ record self.old {
+          watcher = self.new.watcher;
+          queue = self.new.queue;
+          place = self.new.place;
+        } }
+        ensures told { (address : List ℕ)
+            → OnOk result (Tells out.old out.new
+            (goes_on self.old.closed (viewer address self.old.watcher (left self.old)))
+            (live_state address self.new).phase) }
     {
         let stopped = do_lines(&mut self.watcher, out, self.queue.left(), self.closed)?;
         self.queue.begin(stopped.count);
@@ -464,8 +549,14 @@ impl LiveView {
         requires whole { self.old.lost ≡ false }
         ensures live { OnOk result (IsLive self.new) }
         ensures knows { KnowsItself self.new.watcher }
-        ensures kept { self.new ≡ record self.old { watcher = self.new.watcher; queue = self.new.queue; place = self.new.place } }
-        ensures told { (address : List ℕ) → OnOk result (Tells out.old out.new (wakes self.old.closed (live_state address self.old).phase) (live_state address self.new).phase) }
+        ensures kept { self.new ≡ record self.old {
+          watcher = self.new.watcher;
+          queue = self.new.queue;
+          place = self.new.place;
+        } }
+        ensures told { (address : List ℕ)
+            → OnOk result (Tells out.old out.new (wakes self.old.closed (live_state address self.old).phase)
+            (live_state address self.new).phase) }
     {
         if self.rests() {
             return self.advance(out);
@@ -478,9 +569,16 @@ impl LiveView {
         requires live { IsLive self.old }
         ensures live { OnOk result (IsLive self.new) }
         ensures knows { KnowsItself self.new.watcher }
-        ensures kept { self.new ≡ record self.old { watcher = self.new.watcher; queue = self.new.queue; place = self.new.place; closed = true } }
+        ensures kept { self.new ≡ record self.old {
+          watcher = self.new.watcher;
+          queue = self.new.queue;
+          place = self.new.place;
+          closed = true;
+        } }
         ensures whole { OnOk result (self.new.lost ≡ false) }
-        ensures told { (address : List ℕ) → OnOk result (Tells out.old out.new (wakes true (live_state address self.old).phase) (live_state address self.new).phase) }
+        ensures told { (address : List ℕ)
+            → OnOk result (Tells out.old out.new (wakes true (live_state address self.old).phase)
+            (live_state address self.new).phase) }
     {
         self.closed = true;
         if self.lost {
@@ -494,12 +592,23 @@ impl LiveView {
         requires live { IsLive self.old }
         ensures live { OnOk result (IsLive self.new) }
         ensures knows { KnowsItself self.new.watcher }
-        ensures kept { self.new ≡ record self.old { watcher = self.new.watcher; queue = self.new.queue; place = self.new.place; count = self.new.count; holds = self.new.holds } }
+        ensures kept { self.new ≡ record self.old {
+          watcher = self.new.watcher;
+          queue = self.new.queue;
+          place = self.new.place;
+          count = self.new.count;
+          holds = self.new.holds;
+        } }
         ensures count { self.new.count ≡ one_more self.old.count }
         ensures whole { OnOk result (self.new.lost ≡ false) }
-        ensures holds { (address : List ℕ) → OnOk result (self.new.holds ≡ holds_by self.old.closed (viewer_of (live_state address self.old).phase) (read_line bytes.now) self.old.holds) }
+        ensures holds { (address : List ℕ)
+            → OnOk result (self.new.holds ≡ holds_by self.old.closed (viewer_of (live_state address self.old).phase)
+            (read_line bytes.now) self.old.holds) }
         ensures held { OnErr result (self.new.holds ≡ self.old.holds) }
-        ensures told { (address : List ℕ) → OnOk result (Tells out.old out.new (line_step self.old.closed (one_more self.old.count) (live_state address self.old).phase (read_line bytes.now)) (live_state address self.new).phase) }
+        ensures told { (address : List ℕ)
+            → OnOk result (Tells out.old out.new
+            (line_step self.old.closed (one_more self.old.count) (live_state address self.old).phase
+            (read_line bytes.now)) (live_state address self.new).phase) }
     {
         let count = one_more(self.count);
         self.count = count;
@@ -536,10 +645,19 @@ impl LiveView {
         requires fit { AreFit said }
         ensures live { OnOk result (IsLive self.new) }
         ensures knows { KnowsItself self.new.watcher }
-        ensures kept { self.new ≡ record self.old { watcher = self.new.watcher; queue = self.new.queue; place = self.new.place; holds = self.new.holds } }
-        ensures holds { (address : List ℕ) (v : Viewer) → viewer_of (live_state address self.old).phase ≡ Some v → OnOk result (self.new.holds ≡ holds_by false (Some v) (says said) self.old.holds) }
+        ensures kept { self.new ≡ record self.old {
+          watcher = self.new.watcher;
+          queue = self.new.queue;
+          place = self.new.place;
+          holds = self.new.holds;
+        } }
+        ensures holds { (address : List ℕ) (v : Viewer) → viewer_of (live_state address self.old).phase ≡ Some v
+            → OnOk result (self.new.holds ≡ holds_by false (Some v) (says said) self.old.holds) }
         ensures held { OnErr result (self.new.holds ≡ self.old.holds) }
-        ensures told { (address : List ℕ) (v : Viewer) → viewer_of (live_state address self.old).phase ≡ Some v → OnOk result (Tells out.old out.new (line_at self.old.count (Some v) (live_state address self.old).phase (says said)) (live_state address self.new).phase) }
+        ensures told { (address : List ℕ) (v : Viewer) → viewer_of (live_state address self.old).phase ≡ Some v
+            → OnOk result (Tells out.old out.new
+            (line_at self.old.count (Some v) (live_state address self.old).phase (says said))
+            (live_state address self.new).phase) }
     {
         match said {
             Said::Nothing => tell_bad_line(self.watcher.alloc, out, self.count),
@@ -554,7 +672,8 @@ impl LiveView {
     /// How many events were published, or are to be by the vote that is at work and by the lines that are left.
     fn taken(&self) -> usize
         requires { IsLive self.now }
-        ensures count { result ≡ self.now.watcher.published + votes_of (Some self.now.place) + publish_count_of (left self.now) }
+        ensures count { result ≡ self.now.watcher.published + votes_of (Some self.now.place)
+            + publish_count_of (left self.now) }
         ensures few { result ≤ most_publishes }
     {
         let votes = votes_at(self.place);
@@ -569,8 +688,15 @@ impl LiveView {
         requires fit { AllByRecursion LineFits (plain_lines more.items) }
         ensures live { OnOk result (IsLive self.new) }
         ensures knows { KnowsItself self.new.watcher }
-        ensures kept { self.new ≡ record self.old { watcher = self.new.watcher; queue = self.new.queue; place = self.new.place } }
-        ensures told { (address : List ℕ) (v : Viewer) → viewer_of (live_state address self.old).phase ≡ Some v → OnOk result (Tells out.old out.new (line_at self.old.count (Some v) (live_state address self.old).phase (Lines (plain_lines more.items))) (live_state address self.new).phase) }
+        ensures kept { self.new ≡ record self.old {
+          watcher = self.new.watcher;
+          queue = self.new.queue;
+          place = self.new.place;
+        } }
+        ensures told { (address : List ℕ) (v : Viewer) → viewer_of (live_state address self.old).phase ≡ Some v
+            → OnOk result (Tells out.old out.new
+            (line_at self.old.count (Some v) (live_state address self.old).phase (Lines (plain_lines more.items)))
+            (live_state address self.new).phase) }
     {
         let publishes = publish_count(&more);
         let taken = self.taken();
@@ -613,7 +739,11 @@ impl LiveView {
     /// Whether the view has come to the entry by which it joined. Then it is awaited no more, and so where it hears no link.
     fn arrive(&mut self) -> bool
         ensures here { (address : List ℕ) → result ≡ has_arrived (live_state address self.old).phase self.old.joined }
-        ensures kept { (address : List ℕ) → self.new ≡ record self.old { joined = awaited result (live_state address self.old).phase self.old.joined } }
+        ensures kept { (address : List ℕ)
+            → self.new ≡ record self.old {
+              joined = awaited result
+                  (live_state address self.old).phase self.old.joined;
+            } }
     {
         let arrived = self.has_arrived();
         let joined = self.awaited(arrived);
@@ -625,10 +755,15 @@ impl LiveView {
     pub(crate) fn lose(&mut self)
         requires knows { KnowsItself self.old.watcher }
         ensures live { IsLive self.new }
-        ensures kept { self.new ≡ record self.old { queue = self.new.queue; place = Place.Unlinked How.Fresh; joined = None; lost = true } }
+        ensures kept { self.new ≡ record self.old {
+          queue = self.new.queue;
+          place = Place.Unlinked How.Fresh;
+          joined = None;
+          lost = true;
+        } }
     {
         // A view published no more events than a view may.
-        tell_few(&self.watcher.replica);
+        tell_few(&self.watcher.replica); // for the prover
         self.queue.clear();
         self.place = Place::Unlinked(How::Fresh);
         self.joined = None;

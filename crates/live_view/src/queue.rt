@@ -55,7 +55,8 @@ impl Queue {
     /// How many of the next lines publish.
     fn publishes_of(&self, count: usize) -> usize
         requires { self.now.begun + count ≤ length self.now.lines.items }
-        ensures { result + count_publishes (plain_lines (drop (self.now.begun + count) self.now.lines.items)) ≡ count_publishes (queue_left self.now) }
+        ensures { result + count_publishes (plain_lines (drop (self.now.begun + count) self.now.lines.items))
+            ≡ count_publishes (queue_left self.now) }
     {
         publish_count(&self.lines[self.begun..self.begun + count])
     }

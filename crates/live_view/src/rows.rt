@@ -19,7 +19,8 @@ use wire_frames::{FrameFault, ServerFrame, read_server};
 /// Whether the link is gone: it said so, a call of it failed, or it was quiet too often in a row.
 pub fn link_ends(watcher: &Watcher, heard: &Heard) -> bool
     requires ready { IsReady watcher.now }
-    ensures { (address : List ℕ) (lines : List PlainLine) → result ≡ ends_link (viewer address watcher.now lines) heard.now }
+    ensures { (address : List ℕ) (lines : List PlainLine)
+        → result ≡ ends_link (viewer address watcher.now lines) heard.now }
 {
     match heard {
         Heard::Frame(_) => false,
@@ -41,7 +42,8 @@ pub fn hear(
     requires room { watcher.old.published + votes_for goal ≤ most_publishes }
     ensures ready { IfOk result (λ place. IsReadyAt place watcher.new) }
     ensures knows { KnowsItself watcher.new }
-    ensures count { IfOk result (λ place. watcher.new.published + votes_at place ≤ watcher.old.published + votes_for goal) }
+    ensures count { IfOk result (λ place. watcher.new.published + votes_at place
+        ≤ watcher.old.published + votes_for goal) }
     ensures told { (address : List ℕ) (lines : List PlainLine) → IfOk result (λ place. Comes out.old out.new
         (hears (viewer address watcher.old lines) (aim_of goal) heard.now) (viewer address watcher.new lines) place) }
 {

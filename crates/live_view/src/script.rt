@@ -45,10 +45,15 @@ pub fn do_lines(
     requires room { HasRoomFor watcher.old (plain_lines lines.now) }
     ensures ready { OnOk result (IsReady watcher.new) }
     ensures knows { KnowsItself watcher.new }
-    ensures count { IfOk result (λ stopped. watcher.new.published + votes_at (Some stopped.place) + publish_count (plain_lines (drop stopped.count lines.now)) ≤ watcher.old.published + publish_count (plain_lines lines.now)) }
+    ensures count { IfOk result (λ stopped. watcher.new.published + votes_at (Some stopped.place)
+        + publish_count (plain_lines (drop stopped.count lines.now))
+        ≤ watcher.old.published + publish_count (plain_lines lines.now)) }
     ensures few { IfOk result (λ stopped. stopped.count ≤ length lines.now) }
-    ensures told { (address : List ℕ) → IfOk result (λ stopped. after out.old (lines_from closed (plain_lines lines.now) (viewer address watcher.old (plain_lines lines.now)))
-        ≡ after out.new (waits (phase_at stopped.place (viewer address watcher.new (plain_lines (drop stopped.count lines.now)))))) }
+    ensures told { (address : List ℕ)
+        → IfOk result (λ stopped. after out.old
+        (lines_from closed (plain_lines lines.now) (viewer address watcher.old (plain_lines lines.now)))
+        ≡ after out.new (waits (phase_at stopped.place
+        (viewer address watcher.new (plain_lines (drop stopped.count lines.now)))))) }
 {
     for index in 0..lines.len() {
         match run_line(watcher, out, &lines[index])? {

@@ -64,7 +64,8 @@ queue_with m q = record q { messages = insert_in_order m q.messages }
 
 -- a call of an object's method, which gets the next number
 abbrev pub new_message : ℕ → ℕ → List ℕ → List PlainValue → QueueRecord → PlainMessage
-new_message time object method args q = record { time = time; number = q.next; object = object; method = method; args = args }
+new_message time object method args q =
+    record { time = time; number = q.next; object = object; method = method; args = args }
 
 abbrev pub queue_after_push : ℕ → ℕ → List ℕ → List PlainValue → QueueRecord → QueueRecord
 queue_after_push time object method args q =
@@ -103,7 +104,8 @@ QueueHasRoom q = (length q.messages < most_messages) × (q.next < last_message_n
 abbrev pub Pushes : Result ℕ StoreRefusal → ℕ → ℕ → List ℕ → List PlainValue → QueueRecord → QueueRecord → Type 0
 Pushes (Ok number) time object method args old new =
     QueueHasRoom old × (number ≡ old.next) × (new ≡ queue_after_push time object method args old)
-Pushes (Err (Full count)) time object method args old new = IsFullQueue old × (count ≡ length old.messages) × (new ≡ old)
+Pushes (Err (Full count)) time object method args old new =
+    IsFullQueue old × (count ≡ length old.messages) × (new ≡ old)
 Pushes (Err Spent) time object method args old new =
     (length old.messages < most_messages) × (old.next ≡ last_message_number) × (new ≡ old)
 Pushes (Err WantOfMemory) time object method args old new = QueueHasRoom old × (new ≡ old)

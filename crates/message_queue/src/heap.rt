@@ -35,7 +35,7 @@ fn precedes_counted<L: Ledger>(one: &Message, other: &Message, steps: &mut Steps
     ensures answer { result ≡ is_before (plain_message one.now) (plain_message other.now) }
     ensures count { steps.new ≡ steps.old + 1 }
 {
-    steps.tick();
+    steps.tick(); // for the prover
     precedes(one, other)
 }
 

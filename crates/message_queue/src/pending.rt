@@ -13,7 +13,8 @@ use world_plain::Message;
 
 /// Takes away the calls of a method of an object.
 pub fn remove_calls(messages: &mut Vec<Message>, object: u32, method: &Text)
-    ensures kept { messages_seen messages.new.items ≡ filter (λ m. not (calls object method.now m)) (messages_seen messages.old.items) }
+    ensures kept { messages_seen messages.new.items
+        ≡ filter (λ m. not (calls object method.now m)) (messages_seen messages.old.items) }
     ensures fewer { length messages.new.items ≤ length messages.old.items }
 {
     messages.retain(|message| !is_call(message, object, method));
@@ -29,7 +30,8 @@ fn is_call(message: &Message, object: u32, method: &Text) -> bool
 
 /// Takes away the messages to an object.
 pub fn remove_object(messages: &mut Vec<Message>, object: u32)
-    ensures kept { messages_seen messages.new.items ≡ filter (λ m. not (nat_eq m.object object)) (messages_seen messages.old.items) }
+    ensures kept { messages_seen messages.new.items
+        ≡ filter (λ m. not (nat_eq m.object object)) (messages_seen messages.old.items) }
     ensures fewer { length messages.new.items ≤ length messages.old.items }
 {
     messages.retain(|message| message.object != object);

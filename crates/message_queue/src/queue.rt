@@ -208,8 +208,10 @@ fn rebuild(messages: &mut Vec<Message>, weight: &mut u64, before: usize) -> u32
     requires light { AreLightMessages (messages_seen messages.old.items) }
     ensures number { result + length messages.new.items ≡ before }
     ensures held { IsPermutation messages.old.items messages.new.items }
-    ensures fewer { length messages.old.items < before → IsHeap messages.new.items × (weight.new ≡ total_weight message_weight (messages_seen messages.new.items)) }
-    ensures all { length messages.old.items ≡ before → (messages.new.items ≡ messages.old.items) × (weight.new ≡ weight.old) }
+    ensures fewer { length messages.old.items < before → IsHeap messages.new.items
+        × (weight.new ≡ total_weight message_weight (messages_seen messages.new.items)) }
+    ensures all { length messages.old.items ≡ before → (messages.new.items ≡ messages.old.items)
+        × (weight.new ≡ weight.old) }
 {
     let gone = before - messages.len();
     if gone == 0 {

@@ -14,5 +14,6 @@ pub fn values_are_in_bounds()
 /// Each number from -2^63 to 2^63 - 1 is read from its decimal spelling, and is read from nothing else.
 pub fn numbers_are_read_as_they_are_spelled()
     ensures again { (n : ℤ) → IsTrue (in_64_bits n) → read_decimal (signed_decimal n) ≡ Some n }
-    ensures only { (characters : List ℕ) (n : ℤ) → read_decimal characters ≡ Some n → IsTrue (in_64_bits n) × (signed_decimal n ≡ characters) }
+    ensures only { (characters : List ℕ) (n : ℤ) → read_decimal characters ≡ Some n → IsTrue (in_64_bits n)
+        × (signed_decimal n ≡ characters) }
 {}

@@ -22,7 +22,7 @@ pub fn length(x: &Value) -> Result<Value, BuiltinStop>
     }
 }
 
-// A length as a number. No memory holds 2^63 characters or items, so a greater length is memory that is wanting.
+/// A length as a number. No memory holds 2^63 characters or items, so a greater length is memory that is wanting.
 fn number(length: usize) -> Result<Value, BuiltinStop>
     ensures { Applies result (value (int (pos length))) }
 {

@@ -19,4 +19,5 @@ Solves (Err fault) faults wanted = IsFirstFault fault faults
 
 -- the program itself, with nil as its persisted value, or its first fault
 abbrev pub Checks : Result CheckedView CheckFault → List Class → Type 0
-Checks result program = Solves result (faults_of_program (program_tree program)) (λ checked. checked ≡ record { classes = program; persisted = nil })
+Checks result program = Solves result (faults_of_program (program_tree program)) (λ checked. checked
+    ≡ record { classes = program; persisted = nil })

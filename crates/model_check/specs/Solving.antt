@@ -31,39 +31,57 @@ abbrev mutual
   solve_expression classes fields scope (field x) = solved.field (place_of fields x)
   solve_expression classes fields scope (list items) = solved.list (solve_expressions classes fields scope items)
   solve_expression classes fields scope (unary op e) = solved.unary op (solve_expression classes fields scope e)
-  solve_expression classes fields scope (binary op a b) = solved.binary op (solve_expression classes fields scope a) (solve_expression classes fields scope b)
-  solve_expression classes fields scope (builtin x args) = solved.builtin (builtin_of x) (solve_expressions classes fields scope args)
-  solve_expression classes fields scope (call object x args) = solved.call (solve_expression classes fields scope object) x (solve_expressions classes fields scope args)
+  solve_expression classes fields scope (binary op a b) =
+      solved.binary op (solve_expression classes fields scope a) (solve_expression classes fields scope b)
+  solve_expression classes fields scope (builtin x args) =
+      solved.builtin (builtin_of x) (solve_expressions classes fields scope args)
+  solve_expression classes fields scope (call object x args) =
+      solved.call (solve_expression classes fields scope object) x (solve_expressions classes fields scope args)
   solve_expression classes fields scope (future object delay x args) =
-      solved.future (solve_expression classes fields scope object) (solve_expression classes fields scope delay) x (solve_expressions classes fields scope args)
-  solve_expression classes fields scope (create x options) = solved.create (place_of classes x) (solve_expression classes fields scope options)
+      solved.future (solve_expression classes fields scope object) (solve_expression classes fields scope delay) x
+      (solve_expressions classes fields scope args)
+  solve_expression classes fields scope (create x options) =
+      solved.create (place_of classes x) (solve_expression classes fields scope options)
 
   pub solve_expressions : List Name → List Name → List Name → Expressions → SolvedExpressions
   solve_expressions classes fields scope no_expressions = solved.no_expressions
-  solve_expressions classes fields scope (expression e es) = solved.expression (solve_expression classes fields scope e) (solve_expressions classes fields scope es)
+  solve_expressions classes fields scope (expression e es) =
+      solved.expression (solve_expression classes fields scope e) (solve_expressions classes fields scope es)
 
 -- a `let` has the next slot
 abbrev mutual
   pub solve_statement : List Name → List Name → List Name → Statement → SolvedStatement
-  solve_statement classes fields scope (declare x e) = solved.declare (length scope) (solve_expression classes fields scope e)
-  solve_statement classes fields scope (assign x e) = solved.assign (place_of scope x) (solve_expression classes fields scope e)
-  solve_statement classes fields scope (set_field x e) = solved.set_field (place_of fields x) (solve_expression classes fields scope e)
+  solve_statement classes fields scope (declare x e) =
+      solved.declare (length scope) (solve_expression classes fields scope e)
+  solve_statement classes fields scope (assign x e) =
+      solved.assign (place_of scope x) (solve_expression classes fields scope e)
+  solve_statement classes fields scope (set_field x e) =
+      solved.set_field (place_of fields x) (solve_expression classes fields scope e)
   solve_statement classes fields scope (when test block other) =
-      solved.when (solve_expression classes fields scope test) (solve_statements classes fields scope block) (solve_else classes fields scope other)
-  solve_statement classes fields scope (while test block) = solved.while (solve_expression classes fields scope test) (solve_statements classes fields scope block)
+      solved.when (solve_expression classes fields scope test) (solve_statements classes fields scope block)
+      (solve_else classes fields scope other)
+  solve_statement classes fields scope (while test block) =
+      solved.while (solve_expression classes fields scope test) (solve_statements classes fields scope block)
   solve_statement classes fields scope (give e) = solved.give (solve_expression classes fields scope e)
   solve_statement classes fields scope (do_ e) = solved.do_ (solve_expression classes fields scope e)
 
   pub solve_statements : List Name → List Name → List Name → Statements → SolvedStatements
   solve_statements classes fields scope no_statements = solved.no_statements
-  solve_statements classes fields scope (statement s ss) = solved.statement (solve_statement classes fields scope s) (solve_statements classes fields (scope_behind scope s) ss)
+  solve_statements classes fields scope (statement s ss) =
+      solved.statement (solve_statement classes fields scope s)
+      (solve_statements classes fields (scope_behind scope s) ss)
 
   pub solve_else : List Name → List Name → List Name → Otherwise → SolvedOtherwise
   solve_else classes fields scope no_else = solved.no_else
   solve_else classes fields scope (else_block block) = solved.else_block (solve_statements classes fields scope block)
 
 abbrev pub solve_method : List Name → List Name → MethodTree → SolvedMethod
-solve_method classes fields m = record { params = length m.params; slots = slots_of_statements m.params m.body; body = solve_statements classes fields m.params m.body }
+solve_method classes fields m =
+    record {
+      params = length m.params;
+      slots = slots_of_statements m.params m.body;
+      body = solve_statements classes fields m.params m.body;
+    }
 
 abbrev pub solve_methods : List Name → ClassTree → List SolvedMethod
 solve_methods classes c = map (solve_method classes c.fields) c.methods

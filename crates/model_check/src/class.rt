@@ -23,7 +23,9 @@ use tea_base::{Text, push};
 pub fn solve(alloc: Global, classes: &[Class]) -> Result<Vec<Vec<Solved>>, CheckFault>
     requires few_classes { length classes.now ≤ most_members }
     requires solvable { AreSolvable (program_tree classes.now) }
-    ensures { let names = map (λ c. c.name) classes.now in let tree = program_tree classes.now in Solves result (faults_of_classes names [] tree) (λ s. map (λ methods. map solved_method methods.items) s.items ≡ map (solve_methods names) tree) }
+    ensures { let names = map (λ c. c.name) classes.now in let tree = program_tree classes.now
+        in Solves result (faults_of_classes names [] tree) (λ s.
+        map (λ methods. map solved_method methods.items) s.items ≡ map (solve_methods names) tree) }
 {
     let mut solved = Vec::new(alloc);
     for i in 0..classes.len() {
@@ -38,7 +40,8 @@ pub fn solve(alloc: Global, classes: &[Class]) -> Result<Vec<Vec<Solved>>, Check
 /// The number of the class named `Root`.
 pub fn root(classes: &[Class]) -> Result<u16, CheckFault>
     requires { length classes.now ≤ most_members }
-    ensures { Solves result (missing_from (map (λ c. c.name) classes.now) root_name NoRoot) (λ number. IsClass (program_tree classes.now) number root_name) }
+    ensures { Solves result (missing_from (map (λ c. c.name) classes.now) root_name NoRoot) (λ number.
+        IsClass (program_tree classes.now) number root_name) }
 {
     let mut number = 0;
     for class in classes {
@@ -72,7 +75,7 @@ fn has_method(methods: &[Method], name: &Text) -> bool
     false
 }
 
-// A class that stands behind others.
+/// A class that stands behind others.
 #[tactic(auto, using(crate::proofs::First::by_first))]
 fn next_class(
     alloc: Global,
@@ -82,7 +85,10 @@ fn next_class(
 ) -> Result<Vec<Solved>, CheckFault>
     requires few_classes { length classes.now ≤ most_members }
     requires solvable { IsSolvable (class_tree next.now) }
-    ensures { let names = map (λ c. c.name) classes.now in Solves result (faults_of_name (map (λ c. c.name) before.now) next.now.name ++ faults_of_class names (class_tree next.now)) (λ s. map solved_method s.items ≡ solve_methods names (class_tree next.now)) }
+    ensures { let names = map (λ c. c.name) classes.now
+        in Solves result (faults_of_name (map (λ c. c.name) before.now) next.now.name
+        ++ faults_of_class names (class_tree next.now)) (λ s. map solved_method s.items
+        ≡ solve_methods names (class_tree next.now)) }
 {
     once(has_class(before, &next.name), &next.name)?;
     class(alloc, classes, next)
@@ -92,7 +98,9 @@ fn next_class(
 fn class(alloc: Global, classes: &[Class], class: &Class) -> Result<Vec<Solved>, CheckFault>
     requires few_classes { length classes.now ≤ most_members }
     requires solvable { IsSolvable (class_tree class.now) }
-    ensures { let names = map (λ c. c.name) classes.now in Solves result (faults_of_class names (class_tree class.now)) (λ s. map solved_method s.items ≡ solve_methods names (class_tree class.now)) }
+    ensures { let names = map (λ c. c.name) classes.now
+        in Solves result (faults_of_class names (class_tree class.now)) (λ s. map solved_method s.items
+        ≡ solve_methods names (class_tree class.now)) }
 {
     all_once(&class.fields)?;
     methods(alloc, classes, &class.fields, &class.methods)
@@ -108,7 +116,9 @@ fn methods(
     requires few_classes { length classes.now ≤ most_members }
     requires few_fields { length fields.now ≤ most_members }
     requires few_parameters { HaveFewParameters (map method_tree methods.now) }
-    ensures { let names = map (λ c. c.name) classes.now in let trees = map method_tree methods.now in Solves result (faults_of_methods names fields.now [] trees) (λ s. map solved_method s.items ≡ map (solve_method names fields.now) trees) }
+    ensures { let names = map (λ c. c.name) classes.now in let trees = map method_tree methods.now
+        in Solves result (faults_of_methods names fields.now [] trees) (λ s. map solved_method s.items
+        ≡ map (solve_method names fields.now) trees) }
 {
     let mut solved = Vec::new(alloc);
     for i in 0..methods.len() {
@@ -120,7 +130,7 @@ fn methods(
     Ok(solved)
 }
 
-// A method that stands behind others.
+/// A method that stands behind others.
 #[tactic(auto, using(crate::proofs::First::by_first))]
 fn next_method(
     alloc: Global,
@@ -132,7 +142,10 @@ fn next_method(
     requires few_classes { length classes.now ≤ most_members }
     requires few_fields { length fields.now ≤ most_members }
     requires few_parameters { length (method_tree next.now).params ≤ most_arguments }
-    ensures { let names = map (λ c. c.name) classes.now in Solves result (faults_of_name (map (λ m. m.name) before.now) next.now.name ++ faults_of_method names fields.now (method_tree next.now)) (λ s. solved_method s ≡ solve_method names fields.now (method_tree next.now)) }
+    ensures { let names = map (λ c. c.name) classes.now
+        in Solves result (faults_of_name (map (λ m. m.name) before.now) next.now.name
+        ++ faults_of_method names fields.now (method_tree next.now)) (λ s. solved_method s
+        ≡ solve_method names fields.now (method_tree next.now)) }
 {
     once(has_method(before, &next.name), &next.name)?;
     method(alloc, classes, fields, next)
@@ -148,7 +161,9 @@ fn method(
     requires few_classes { length classes.now ≤ most_members }
     requires few_fields { length fields.now ≤ most_members }
     requires few_parameters { length (method_tree method.now).params ≤ most_arguments }
-    ensures { let names = map (λ c. c.name) classes.now in Solves result (faults_of_method names fields.now (method_tree method.now)) (λ s. solved_method s ≡ solve_method names fields.now (method_tree method.now)) }
+    ensures { let names = map (λ c. c.name) classes.now
+        in Solves result (faults_of_method names fields.now (method_tree method.now)) (λ s. solved_method s
+        ≡ solve_method names fields.now (method_tree method.now)) }
 {
     all_once(&method.params)?;
     let mut scope = Scope::of_params(alloc, &method.params)?;

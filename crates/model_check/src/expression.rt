@@ -27,7 +27,9 @@ pub fn expression(
 ) -> Result<SolvedExpr, CheckFault>
     requires few_classes { length classes.now ≤ most_members }
     requires few_fields { length fields.now ≤ most_members }
-    ensures { let names = map (λ c. c.name) classes.now in let tree = expression_tree expr.now in Solves result (faults_of_expression names fields.now scope.now.names.items tree) (λ s. solved_expression s ≡ solve_expression names fields.now scope.now.names.items tree) }
+    ensures { let names = map (λ c. c.name) classes.now in let tree = expression_tree expr.now
+        in Solves result (faults_of_expression names fields.now scope.now.names.items tree) (λ s. solved_expression s
+        ≡ solve_expression names fields.now scope.now.names.items tree) }
 {
     let context = Context {
         alloc,
@@ -38,7 +40,7 @@ pub fn expression(
     context.expression(expr)
 }
 
-// Where an expression stands: in a program with these classes, in a class with these fields, where these names are in scope.
+/// Where an expression stands: in a program with these classes, in a class with these fields, where these names are in scope.
 #[derive(Clone, Copy)]
 struct Context<'a> {
     alloc: Global,
@@ -53,7 +55,10 @@ impl Context<'_> {
     fn expression(&self, expr: &Expr) -> Result<SolvedExpr, CheckFault>
         requires few_classes { length self.now.classes.now ≤ most_members }
         requires few_fields { length self.now.fields.now ≤ most_members }
-        ensures { let context = self.now in let names = map (λ c. c.name) context.classes.now in let tree = expression_tree expr.now in Solves result (faults_of_expression names context.fields.now context.scope.now.names.items tree) (λ s. solved_expression s ≡ solve_expression names context.fields.now context.scope.now.names.items tree) }
+        ensures { let context = self.now in let names = map (λ c. c.name) context.classes.now
+            in let tree = expression_tree expr.now
+            in Solves result (faults_of_expression names context.fields.now context.scope.now.names.items tree) (λ s.
+            solved_expression s ≡ solve_expression names context.fields.now context.scope.now.names.items tree) }
     {
         match expr {
             Expr::Nil => Ok(SolvedExpr::Nil),
@@ -102,7 +107,11 @@ impl Context<'_> {
     fn expressions(&self, exprs: &[Expr]) -> Result<Vec<SolvedExpr>, CheckFault>
         requires few_classes { length self.now.classes.now ≤ most_members }
         requires few_fields { length self.now.fields.now ≤ most_members }
-        ensures { let context = self.now in let names = map (λ c. c.name) context.classes.now in let trees = expression_trees exprs.now in Solves result (faults_of_expressions names context.fields.now context.scope.now.names.items trees) (λ s. solved_expressions s.items ≡ solve_expressions names context.fields.now context.scope.now.names.items trees) }
+        ensures { let context = self.now in let names = map (λ c. c.name) context.classes.now
+            in let trees = expression_trees exprs.now
+            in Solves result (faults_of_expressions names context.fields.now context.scope.now.names.items trees) (λ s.
+            solved_expressions s.items ≡ solve_expressions names context.fields.now context.scope.now.names.items
+            trees) }
     {
         let mut solved = Vec::new(self.alloc);
         for expr in exprs {
@@ -116,7 +125,10 @@ impl Context<'_> {
     fn unary(&self, op: UnaryOp, of: &Expr) -> Result<SolvedExpr, CheckFault>
         requires few_classes { length self.now.classes.now ≤ most_members }
         requires few_fields { length self.now.fields.now ≤ most_members }
-        ensures { let context = self.now in let names = map (λ c. c.name) context.classes.now in let tree = unary_tree op (expression_tree of.now) in Solves result (faults_of_expression names context.fields.now context.scope.now.names.items tree) (λ s. solved_expression s ≡ solve_expression names context.fields.now context.scope.now.names.items tree) }
+        ensures { let context = self.now in let names = map (λ c. c.name) context.classes.now
+            in let tree = unary_tree op (expression_tree of.now)
+            in Solves result (faults_of_expression names context.fields.now context.scope.now.names.items tree) (λ s.
+            solved_expression s ≡ solve_expression names context.fields.now context.scope.now.names.items tree) }
     {
         let of = self.expression(of)?;
         Ok(new_unary(self.alloc, op, of)?)
@@ -127,7 +139,10 @@ impl Context<'_> {
     fn builtin(&self, name: &Text, args: &[Expr]) -> Result<SolvedExpr, CheckFault>
         requires few_classes { length self.now.classes.now ≤ most_members }
         requires few_fields { length self.now.fields.now ≤ most_members }
-        ensures { let context = self.now in let names = map (λ c. c.name) context.classes.now in let tree = builtin_tree name.now (expression_trees args.now) in Solves result (faults_of_expression names context.fields.now context.scope.now.names.items tree) (λ s. solved_expression s ≡ solve_expression names context.fields.now context.scope.now.names.items tree) }
+        ensures { let context = self.now in let names = map (λ c. c.name) context.classes.now
+            in let tree = builtin_tree name.now (expression_trees args.now)
+            in Solves result (faults_of_expression names context.fields.now context.scope.now.names.items tree) (λ s.
+            solved_expression s ≡ solve_expression names context.fields.now context.scope.now.names.items tree) }
     {
         let name = called_builtin(name, args.len())?;
         let args = self.expressions(args)?;
@@ -139,7 +154,10 @@ impl Context<'_> {
     fn create(&self, class: &Text, options: &Expr) -> Result<SolvedExpr, CheckFault>
         requires few_classes { length self.now.classes.now ≤ most_members }
         requires few_fields { length self.now.fields.now ≤ most_members }
-        ensures { let context = self.now in let names = map (λ c. c.name) context.classes.now in let tree = create_tree class.now (expression_tree options.now) in Solves result (faults_of_expression names context.fields.now context.scope.now.names.items tree) (λ s. solved_expression s ≡ solve_expression names context.fields.now context.scope.now.names.items tree) }
+        ensures { let context = self.now in let names = map (λ c. c.name) context.classes.now
+            in let tree = create_tree class.now (expression_tree options.now)
+            in Solves result (faults_of_expression names context.fields.now context.scope.now.names.items tree) (λ s.
+            solved_expression s ≡ solve_expression names context.fields.now context.scope.now.names.items tree) }
     {
         let class = class_number(self.classes, class)?;
         let options = self.expression(options)?;
@@ -162,7 +180,8 @@ fn new_binary(
     left: SolvedExpr,
     right: SolvedExpr,
 ) -> Result<SolvedExpr, WantOfMemory>
-    ensures { IfOk result (λ s. solved_expression s ≡ solved.binary op (solved_expression left) (solved_expression right)) }
+    ensures { IfOk result (λ s. solved_expression s
+        ≡ solved.binary op (solved_expression left) (solved_expression right)) }
 {
     Ok(SolvedExpr::Binary {
         op,
@@ -177,7 +196,8 @@ fn new_call(
     name: &Text,
     args: Vec<SolvedExpr>,
 ) -> Result<SolvedExpr, WantOfMemory>
-    ensures { IfOk result (λ s. solved_expression s ≡ solved.call (solved_expression object) name.now (solved_expressions args.items)) }
+    ensures { IfOk result (λ s. solved_expression s
+        ≡ solved.call (solved_expression object) name.now (solved_expressions args.items)) }
 {
     Ok(SolvedExpr::Call {
         object: Box::new(alloc, object)?,
@@ -193,7 +213,8 @@ fn new_future(
     name: &Text,
     args: Vec<SolvedExpr>,
 ) -> Result<SolvedExpr, WantOfMemory>
-    ensures { IfOk result (λ s. solved_expression s ≡ solved.future (solved_expression object) (solved_expression delay) name.now (solved_expressions args.items)) }
+    ensures { IfOk result (λ s. solved_expression s
+        ≡ solved.future (solved_expression object) (solved_expression delay) name.now (solved_expressions args.items)) }
 {
     Ok(SolvedExpr::Future {
         object: Box::new(alloc, object)?,

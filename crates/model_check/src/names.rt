@@ -1,5 +1,5 @@
 //! Names: which are equal, and where each stands.
-ghost use Rattle.std.specs.Prelude.{◌≡◌, ◌↔◌, IsTrue, [], map, length, ◌<◌, ◌≤◌, ◌^◌, bytes_eq};
+ghost use Rattle.std.specs.Prelude.{◌≡◌, ◌↔◌, IsTrue, [], map, length, ◌<◌, ◌≤◌, IfSome, bytes_eq};
 ghost use Rattle.std.specs.List.{position_from};
 ghost use Rattle.model_tree.specs.Bounds.{most_members};
 ghost use Rattle.model_tree.specs.Tree.{root_name};
@@ -60,7 +60,7 @@ pub fn field(fields: &[Text], name: &Text) -> Result<u32, CheckFault>
     ensures { Solves result (faults_of_field fields.now name.now) (λ slot. slot ≡ place_of fields.now name.now) }
 {
     match place(fields, name) {
-        Some(slot) => Ok(slot),
+        Some(slot) => Ok(slot as u32),
         None => Err(CheckFault::NoField {
             name: name.try_clone()?,
         }),
@@ -68,8 +68,9 @@ pub fn field(fields: &[Text], name: &Text) -> Result<u32, CheckFault>
 }
 
 /// The place of a local among the names in scope.
-pub fn local(scope: &Scope, name: &Text) -> Result<u32, CheckFault>
-    ensures { Solves result (faults_of_local scope.now.names.items name.now) (λ slot. slot ≡ place_of scope.now.names.items name.now) }
+pub fn local(scope: &Scope, name: &Text) -> Result<usize, CheckFault>
+    ensures { Solves result (faults_of_local scope.now.names.items name.now) (λ slot. slot
+        ≡ place_of scope.now.names.items name.now) }
 {
     match place(&scope.names, name) {
         Some(slot) => Ok(slot),
@@ -82,7 +83,8 @@ pub fn local(scope: &Scope, name: &Text) -> Result<u32, CheckFault>
 /// The number of the class of that name.
 pub fn class_number(classes: &[Class], name: &Text) -> Result<u16, CheckFault>
     requires { length classes.now ≤ most_members }
-    ensures { Solves result (faults_of_creation (map (λ c. c.name) classes.now) name.now) (λ number. number ≡ place_of (map (λ c. c.name) classes.now) name.now) }
+    ensures { Solves result (faults_of_creation (map (λ c. c.name) classes.now) name.now) (λ number. number
+        ≡ place_of (map (λ c. c.name) classes.now) name.now) }
 {
     match class_place(classes, name) {
         Some(number) => Ok(number),
@@ -92,16 +94,14 @@ pub fn class_number(classes: &[Class], name: &Text) -> Result<u16, CheckFault>
     }
 }
 
-fn place(names: &[Text], name: &Text) -> Option<u32>
-    requires { length names.now < 2 ^ 32 }
-    ensures { result ≡ position_from (bytes_eq name.now) 0 names.now }
+fn place(names: &[Text], name: &Text) -> Option<usize>
+    ensures first { result ≡ position_from (bytes_eq name.now) 0 names.now }
+    ensures within { IfSome result (λ place. place < length names.now) }
 {
-    let mut place = 0;
-    for other in names {
-        if is_name(name, other) {
+    for place in 0..names.len() {
+        if is_name(name, &names[place]) {
             return Some(place);
         }
-        place += 1;
     }
     None
 }

@@ -1,5 +1,5 @@
 //! The names that are in scope.
-ghost use Rattle.std.specs.Prelude.{◌≡◌, ◌+◌, ◌<◌, ◌≤◌, ◌^◌, max, [], ◌∷◌, ◌++◌, length, take, IfOk, OnOk};
+ghost use Rattle.std.specs.Prelude.{◌≡◌, ◌+◌, ◌≤◌, max, [], ◌∷◌, ◌++◌, length, take, IfOk, OnOk};
 
 use std::alloc::Global;
 use tea_base::{Text, WantOfMemory};
@@ -9,15 +9,13 @@ use tea_base::{Text, WantOfMemory};
 pub struct Scope {
     pub names: Vec<Text>,
     /// The greatest number of names that were in scope so far.
-    pub slots: u32,
+    pub slots: usize,
     pub ghost within: { length names.items ≤ slots },
-    pub ghost small: { slots < 2 ^ 32 },
 }
 
 impl Scope {
     /// The parameters of a method are in scope in all of it.
     pub fn of_params(alloc: Global, params: &[Text]) -> Result<Scope, WantOfMemory>
-        requires { length params.now < 2 ^ 32 }
         ensures names { IfOk result (λ scope. scope.names.items ≡ params.now) }
         ensures slots { IfOk result (λ scope. scope.slots ≡ length params.now) }
     {
@@ -27,22 +25,19 @@ impl Scope {
         }
         Ok(Scope {
             names,
-            slots: params.len() as u32,
+            slots: params.len(),
         })
     }
 
-    /// One more name is in scope; answers its slot. So many names that a slot would not fit are memory that is wanting.
-    pub fn enter(&mut self, name: &Text) -> Result<u32, WantOfMemory>
+    /// One more name is in scope; answers its slot.
+    pub fn enter(&mut self, name: &Text) -> Result<usize, WantOfMemory>
         ensures slot { IfOk result (λ slot. slot ≡ length self.old.names.items) }
         ensures names { OnOk result (self.new.names.items ≡ self.old.names.items ++ name.now ∷ []) }
         ensures slots { OnOk result (self.new.slots ≡ max self.old.slots (length self.old.names.items + 1)) }
     {
-        let slot = self.names.len() as u32;
-        if slot == u32::MAX {
-            return Err(WantOfMemory);
-        }
-        self.slots = self.slots.max(slot + 1);
+        let slot = self.names.len();
         self.names.push(name.clone()?)?;
+        self.slots = self.slots.max(self.names.len());
         Ok(slot)
     }
 

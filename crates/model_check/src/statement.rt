@@ -29,9 +29,12 @@ pub fn block(
 ) -> Result<Vec<SolvedStmt>, CheckFault>
     requires few_classes { length classes.now ≤ most_members }
     requires few_fields { length fields.now ≤ most_members }
-    ensures solved { let names = map (λ c. c.name) classes.now in let trees = statement_trees stmts.now in Solves result (faults_of_statements names fields.now scope.old.names.items trees) (λ s. solved_statements s.items ≡ solve_statements names fields.now scope.old.names.items trees) }
+    ensures solved { let names = map (λ c. c.name) classes.now in let trees = statement_trees stmts.now
+        in Solves result (faults_of_statements names fields.now scope.old.names.items trees) (λ s.
+        solved_statements s.items ≡ solve_statements names fields.now scope.old.names.items trees) }
     ensures scope { OnOk result (scope.new.names.items ≡ scope.old.names.items) }
-    ensures slots { OnOk result (scope.new.slots ≡ max scope.old.slots (slots_of_statements scope.old.names.items (statement_trees stmts.now))) }
+    ensures slots { OnOk result (scope.new.slots
+        ≡ max scope.old.slots (slots_of_statements scope.old.names.items (statement_trees stmts.now))) }
 {
     let before = scope.names.len();
     let mut solved = Vec::new(alloc);
@@ -53,9 +56,12 @@ fn statement(
 ) -> Result<SolvedStmt, CheckFault>
     requires few_classes { length classes.now ≤ most_members }
     requires few_fields { length fields.now ≤ most_members }
-    ensures solved { let names = map (λ c. c.name) classes.now in let tree = statement_tree stmt.now in Solves result (faults_of_statement names fields.now scope.old.names.items tree) (λ s. solved_statement s ≡ solve_statement names fields.now scope.old.names.items tree) }
+    ensures solved { let names = map (λ c. c.name) classes.now in let tree = statement_tree stmt.now
+        in Solves result (faults_of_statement names fields.now scope.old.names.items tree) (λ s. solved_statement s
+        ≡ solve_statement names fields.now scope.old.names.items tree) }
     ensures scope { OnOk result (scope.new.names.items ≡ scope_behind scope.old.names.items (statement_tree stmt.now)) }
-    ensures slots { OnOk result (scope.new.slots ≡ max scope.old.slots (slots_of_statement scope.old.names.items (statement_tree stmt.now))) }
+    ensures slots { OnOk result (scope.new.slots
+        ≡ max scope.old.slots (slots_of_statement scope.old.names.items (statement_tree stmt.now))) }
 {
     match stmt {
         Stmt::Let { name, value } => {

@@ -40,8 +40,10 @@ abbrev pub executes_by : Starter → Execute
 executes_by s = execute (checked_tree s.program.now) s.room
 
 -- what an operator gives of its two sides
-abbrev pub operates_by : Starter → ℕ → BinaryOp → SolvedExpression → SolvedExpression → List PlainValue → Running → Outcome PlainValue
-operates_by s object op left right locals r = and_then (evaluates_by s object left locals r) (λ v. binary_outcome op v (evaluates_by s object right locals))
+abbrev pub operates_by : Starter → ℕ → BinaryOp → SolvedExpression → SolvedExpression → List PlainValue → Running
+    → Outcome PlainValue
+operates_by s object op left right locals r =
+    and_then (evaluates_by s object left locals r) (λ v. binary_outcome op v (evaluates_by s object right locals))
 
 -- the same of a list of values
 abbrev pub AnswersAll : Result (List Value) EvalStop → State → Budget → Outcome (List PlainValue) → Type 0
@@ -51,19 +53,23 @@ AnswersAll (Err stop.WantOfMemory) state budget meant = Unit {0}
 
 -- the same of statements: the next one follows, with the locals of the frame, or the method ends with the value that it holds
 abbrev pub Proceeds : Result Held EvalStop → Frame → State → Budget → Outcome (Flow (List PlainValue)) → Type 0
-Proceeds (Ok held.Next) frame state budget meant = meant ≡ Gives (next (plain_values frame.locals.items)) (running state budget)
-Proceeds (Ok held.Return) frame state budget meant = meant ≡ Gives (return_with (plain frame.returned)) (running state budget)
+Proceeds (Ok held.Next) frame state budget meant =
+    meant ≡ Gives (next (plain_values frame.locals.items)) (running state budget)
+Proceeds (Ok held.Return) frame state budget meant =
+    meant ≡ Gives (return_with (plain frame.returned)) (running state budget)
 Proceeds (Err (stop.Fault f)) frame state budget meant = meant ≡ Faults f (running state budget)
 Proceeds (Err stop.WantOfMemory) frame state budget meant = Unit {0}
 
 -- a leaf that gives this Int in a state, whatever program runs and may still be open
 abbrev pub GivesInt : State → ℕ → SolvedExpression → List PlainValue → ℤ → Type 0
 GivesInt state object e locals n =
-    (program : ProgramTree) (ev : Evaluate) (start : Start) (budget : Budget) → expression_row program ev start object e locals (running state budget) ≡ Gives (int n) (running state budget)
+    (program : ProgramTree) (ev : Evaluate) (start : Start) (budget : Budget)
+    → expression_row program ev start object e locals (running state budget) ≡ Gives (int n) (running state budget)
 
 -- an operator that evaluates both its sides, whatever the left one gives
 abbrev pub EvaluatesBoth : BinaryOp → Type 0
-EvaluatesBoth op = (v : PlainValue) (right : Running → Outcome PlainValue) (r : Running) → binary_outcome op v right r ≡ and_then (right r) (λ w. give_pure (apply_binary op v w))
+EvaluatesBoth op = (v : PlainValue) (right : Running → Outcome PlainValue) (r : Running)
+    → binary_outcome op v right r ≡ and_then (right r) (λ w. give_pure (apply_binary op v w))
 
 -- the same of what leaves the state alone, whichever that is
 abbrev pub Enters : Result ℕ EvalStop → Budget → (State → Outcome ℕ) → Type 0

@@ -19,7 +19,8 @@ use Rattle.model_eval.specs.Publishing.{publish, subscribe, unsubscribe, cancel,
 abbrev pub draw : ℤ → Running → Outcome PlainValue
 draw (pos n) r =
     if nat_eq n 0 then Faults BadIndex r
-    else Gives (int (pos (number_below n (word_of r.world.random)))) (with_world r (record (r.world) { random = state_after r.world.random }))
+    else Gives (int (pos (number_below n (word_of r.world.random))))
+    (with_world r (record (r.world) { random = state_after r.world.random }))
 draw (negsuc n) r = Faults BadIndex r
 
 -- the builtins that need no world
@@ -73,11 +74,13 @@ abbrev pub on_text : (List ℕ → Running → Outcome PlainValue) → List Plai
 on_text f (text x ∷ []) r = f x r
 on_text f _ r = Faults BadKind r
 
-abbrev pub on_texts : (List ℕ → List ℕ → List ℕ → Running → Outcome PlainValue) → List PlainValue → Running → Outcome PlainValue
+abbrev pub on_texts : (List ℕ → List ℕ → List ℕ → Running → Outcome PlainValue) → List PlainValue → Running
+    → Outcome PlainValue
 on_texts f (text x ∷ text y ∷ text z ∷ []) r = f x y z r
 on_texts f _ r = Faults BadKind r
 
-abbrev pub on_event : (List ℕ → List ℕ → PlainValue → Running → Outcome PlainValue) → List PlainValue → Running → Outcome PlainValue
+abbrev pub on_event : (List ℕ → List ℕ → PlainValue → Running → Outcome PlainValue) → List PlainValue → Running
+    → Outcome PlainValue
 on_event f (text x ∷ text y ∷ v ∷ []) r = f x y v r
 on_event f _ r = Faults BadKind r
 

@@ -16,16 +16,26 @@ ahead time (pos n) = if nat_lt (time + 1000 * n) time_limit then Some (time + 10
 ahead time (negsuc n) = None
 
 abbrev pub has_room : WorldRecord → PlainMessage → Bool
-has_room w m = nat_lt (length w.pending) most_messages && nat_lt w.next_number last_message_number && nat_le (world_weight w + message_weight m) most_world_weight
+has_room w m = nat_lt (length w.pending) most_messages && nat_lt w.next_number last_message_number
+    && nat_le (world_weight w + message_weight m) most_world_weight
 
 abbrev pub with_message : Running → PlainMessage → Running
-with_message r m = with_world r (record (r.world) { pending = insert_in_order m r.world.pending; next_number = r.world.next_number + 1 })
+with_message r m = with_world r (record (r.world) {
+  pending = insert_in_order m r.world.pending;
+  next_number = r.world.next_number + 1;
+})
 
 -- the message has the world's next number
 abbrev pub send_message_at : ℕ → Name → List PlainValue → Option ℕ → Running → Outcome PlainValue
 send_message_at object x args None r = Faults Time r
 send_message_at object x args (Some time) r =
-    let m : PlainMessage = record { time = time; number = r.world.next_number; object = object; method = x; args = args } in
+    let m : PlainMessage = record {
+      time = time;
+      number = r.world.next_number;
+      object = object;
+      method = x;
+      args = args;
+    } in
     if nat_eq time r.world.time && nat_eq r.world.turns most_turns then Faults Instant r else
     if has_room r.world m then Gives nil (with_message r m) else Faults Full r
 

@@ -39,7 +39,8 @@ compare_ints test = on_ints (λ m n. value (bool (test m n)))
 
 -- the quotient, cut towards zero, has to fit, also where the remainder is asked for, which has the sign of the left
 abbrev pub divide : (ℤ → ℤ → ℤ) → PlainValue → PlainValue → PureOutcome
-divide part = on_ints (λ m n. if int_eq n (pos 0) then fails ZeroDivisor else (if in_64_bits (int_div m n) then value (int (part m n)) else fails Overflow))
+divide part = on_ints (λ m n. if int_eq n (pos 0) then fails ZeroDivisor
+    else (if in_64_bits (int_div m n) then value (int (part m n)) else fails Overflow))
 
 -- of two values; `||` and `&&` stand below
 abbrev pub apply_binary : BinaryOp → PlainValue → PlainValue → PureOutcome

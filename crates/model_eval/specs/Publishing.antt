@@ -37,21 +37,25 @@ method_on program (Some o) x = method_of program o.class x
 -- a handler's method starts with the value, and where it has two parameters with the sender too
 abbrev pub handler_arguments : ProgramTree → Notice → Handler → WorldRecord → List PlainValue
 handler_arguments program notice h w =
-    one_or_both (takes_two (method_on program (object_at w.objects h.object) h.method)) notice.value (sender_value notice.sender)
+    one_or_both (takes_two (method_on program (object_at w.objects h.object) h.method)) notice.value
+    (sender_value notice.sender)
 
 -- a handler takes a step, and its method starts, unless its object is gone
 abbrev pub handle : ProgramTree → Start → Notice → Handler → Running → Outcome ⊤
 handle program start notice h r =
-    if is_held h.object r.world then spend_step r (λ s. and_then (start h.object h.method (handler_arguments program notice h s.world) s) (λ _. Gives tt))
+    if is_held h.object r.world then spend_step r (λ s.
+    and_then (start h.object h.method (handler_arguments program notice h s.world) s) (λ _. Gives tt))
     else Gives tt r
 
 abbrev pub run_handlers : ProgramTree → Start → Notice → List Handler → Running → Outcome ⊤
 run_handlers program start notice [] r = Gives tt r
-run_handlers program start notice (h ∷ hs) r = and_then (handle program start notice h r) (λ _. run_handlers program start notice hs)
+run_handlers program start notice (h ∷ hs) r =
+    and_then (handle program start notice h r) (λ _. run_handlers program start notice hs)
 
 -- models are told of an event: its handlers are those that are subscribed now, each in turn
 abbrev pub tell_handlers : ProgramTree → Start → Name → Name → Notice → Running → Outcome ⊤
-tell_handlers program start scope event notice r = run_handlers program start notice (handlers_of scope event r.world.subscriptions) r
+tell_handlers program start scope event notice r =
+    run_handlers program start notice (handlers_of scope event r.world.subscriptions) r
 
 -- what a view sent has its number
 abbrev pub view_notice : ℕ → PlainValue → Notice
@@ -67,12 +71,14 @@ with_outgoing scope event v r =
     record r { published = r.published ++ record { time = r.world.time; scope = scope; event = event; value = v } ∷ [] }
 
 abbrev pub publish : ProgramTree → Start → Name → Name → PlainValue → Running → Outcome PlainValue
-publish program start scope event v r = and_then (tell_handlers program start scope event (model_notice v) (with_outgoing scope event v r)) (λ _. Gives nil)
+publish program start scope event v r =
+    and_then (tell_handlers program start scope event (model_notice v) (with_outgoing scope event v r)) (λ _. Gives nil)
 
 -- ---- subscriptions
 
 abbrev pub has_room_to : WorldRecord → Subscription → Bool
-has_room_to w s = nat_lt (length w.subscriptions) most_subscriptions && nat_le (world_weight w + subscription_weight s) most_world_weight
+has_room_to w s = nat_lt (length w.subscriptions) most_subscriptions
+    && nat_le (world_weight w + subscription_weight s) most_world_weight
 
 abbrev pub with_subscription : Subscription → WorldRecord → WorldRecord
 with_subscription s w = record w { subscriptions = w.subscriptions ++ s ∷ [] }
@@ -94,7 +100,11 @@ subscribe object scope event x r =
 abbrev pub unsubscribe : ℕ → Name → Name → Name → Running → Outcome PlainValue
 unsubscribe object scope event x r =
     let w = r.world in
-    if is_held object w then Gives nil (with_world r (record w { subscriptions = without_subscription (subscription object scope event x) w.subscriptions }))
+    if is_held object w then Gives nil
+    (with_world r (record w {
+      subscriptions = without_subscription
+          (subscription object scope event x) w.subscriptions;
+    }))
     else Faults NoObject r
 
 -- ---- messages and views
@@ -108,7 +118,8 @@ abbrev pub cancel : ℕ → Name → Running → Outcome PlainValue
 cancel object x r =
     let w = r.world in
     let left = messages_without_calls object x w.pending in
-    if is_held object w then Gives (int (pos (length w.pending - length left))) (with_world r (record w { pending = left }))
+    if is_held object w then Gives (int (pos (length w.pending - length left)))
+    (with_world r (record w { pending = left }))
     else Faults NoObject r
 
 abbrev pub count_views : Running → Outcome PlainValue

@@ -25,7 +25,9 @@ pub fn handler_args(
     event: &Event<'_>,
     state: &State,
 ) -> Result<Values, WantOfMemory>
-    ensures { IfOk result (λ args. plain_values args ≡ handler_arguments (checked_tree starter.now.program.now) (notice_of event.now) handler.now (world_of state.now)) }
+    ensures { IfOk result (λ args. plain_values args
+        ≡ handler_arguments (checked_tree starter.now.program.now) (notice_of event.now) handler.now
+        (world_of state.now)) }
 {
     let value = copy(starter.alloc, event.value)?;
     if wants_sender(starter.program, handler, state) {
@@ -35,9 +37,11 @@ pub fn handler_args(
     }
 }
 
-// Whether a handler's method has two parameters, where there is such a method.
+/// Whether a handler's method has two parameters, where there is such a method.
 fn wants_sender(program: &Checked, handler: &Handler, state: &State) -> bool
-    ensures { result ≡ takes_two (method_on (checked_tree program.now) (object_at state.now.objects.objects handler.now.object) handler.now.method) }
+    ensures { result ≡ takes_two
+        (method_on (checked_tree program.now)
+        (object_at state.now.objects.objects handler.now.object) handler.now.method) }
 {
     let Some(class) = state.objects.class(handler.object) else {
         return false;
@@ -48,7 +52,7 @@ fn wants_sender(program: &Checked, handler: &Handler, state: &State) -> bool
     }
 }
 
-// A view as its number, and nil where there is none.
+/// A view as its number, and nil where there is none.
 fn sender_of(sender: Option<u32>) -> Value
     ensures { plain result ≡ sender_value sender }
 {

@@ -32,7 +32,8 @@ pub fn answer(
     state: &mut State,
     budget: &mut Budget,
 ) -> Result<Value, EvalStop>
-    ensures { Answers result state.new budget.new (run_builtin_alone builtin here.now.object (plain_values args.now) (running state.old budget.old)) }
+    ensures { Answers result state.new budget.new
+        (run_builtin_alone builtin here.now.object (plain_values args.now) (running state.old budget.old)) }
 {
     let alloc = here.starter.alloc;
     let object = here.object;
@@ -63,9 +64,10 @@ pub fn answer(
     }
 }
 
-// The milliseconds since the session's founding.
+/// The milliseconds since the session's founding.
 fn now(args: &[Value], state: &State) -> Result<Value, EvalStop>
-    ensures { (budget : Budget) → Answers result state.now budget (on_none tell_time (plain_values args.now) (running state.now budget)) }
+    ensures { (budget : Budget) → Answers result state.now budget
+        (on_none tell_time (plain_values args.now) (running state.now budget)) }
 {
     match args {
         [] => Ok(Value::Int((state.time / 1000).cast_signed())),
@@ -73,9 +75,10 @@ fn now(args: &[Value], state: &State) -> Result<Value, EvalStop>
     }
 }
 
-// How many views are here.
+/// How many views are here.
 fn count_views(args: &[Value], state: &State) -> Result<Value, EvalStop>
-    ensures { (budget : Budget) → Answers result state.now budget (on_none count_views (plain_values args.now) (running state.now budget)) }
+    ensures { (budget : Budget) → Answers result state.now budget
+        (on_none count_views (plain_values args.now) (running state.now budget)) }
 {
     match args {
         [] => Ok(view_count(state.views.as_slice())),
@@ -83,14 +86,15 @@ fn count_views(args: &[Value], state: &State) -> Result<Value, EvalStop>
     }
 }
 
-// The numbers of the views that are here.
+/// The numbers of the views that are here.
 fn tell_views(
     alloc: Global,
     args: &[Value],
     state: &State,
     budget: &mut Budget,
 ) -> Result<Value, EvalStop>
-    ensures { Answers result state.now budget.new (on_none tell_views (plain_values args.now) (running state.now budget.old)) }
+    ensures { Answers result state.now budget.new
+        (on_none tell_views (plain_values args.now) (running state.now budget.old)) }
 {
     match args {
         [] => list_of(views(alloc, state.views.as_slice())?, budget),
@@ -99,7 +103,8 @@ fn tell_views(
 }
 
 fn random(args: &[Value], state: &mut State) -> Result<Value, EvalStop>
-    ensures { (budget : Budget) → Answers result state.new budget (on_int draw (plain_values args.now) (running state.old budget)) }
+    ensures { (budget : Budget) → Answers result state.new budget
+        (on_int draw (plain_values args.now) (running state.old budget)) }
 {
     match args {
         [limit] => draw(limit, state),
@@ -108,7 +113,8 @@ fn random(args: &[Value], state: &mut State) -> Result<Value, EvalStop>
 }
 
 fn draw(limit: &Value, state: &mut State) -> Result<Value, EvalStop>
-    ensures { (budget : Budget) → Answers result state.new budget (on_int draw (plain limit.now ∷ []) (running state.old budget)) }
+    ensures { (budget : Budget) → Answers result state.new budget
+        (on_int draw (plain limit.now ∷ []) (running state.old budget)) }
 {
     match limit {
         Value::Int(limit) => draw_below(*limit, state),
@@ -116,7 +122,7 @@ fn draw(limit: &Value, state: &mut State) -> Result<Value, EvalStop>
     }
 }
 
-// A number below this one, of the world's source.
+/// A number below this one, of the world's source.
 fn draw_below(limit: i64, state: &mut State) -> Result<Value, EvalStop>
     ensures { (budget : Budget) → Answers result state.new budget (draw limit (running state.old budget)) }
 {
@@ -130,7 +136,8 @@ fn draw_below(limit: i64, state: &mut State) -> Result<Value, EvalStop>
 }
 
 fn session_id(alloc: Global, args: &[Value], state: &State) -> Result<Value, EvalStop>
-    ensures { (budget : Budget) → Answers result state.now budget (on_none tell_id (plain_values args.now) (running state.now budget)) }
+    ensures { (budget : Budget) → Answers result state.now budget
+        (on_none tell_id (plain_values args.now) (running state.now budget)) }
 {
     match args {
         [] => spelled_id(alloc, state),
@@ -152,7 +159,7 @@ pub fn session_text(alloc: Global, id: &SessionId) -> Result<Text, WantOfMemory>
     digits(alloc, &id.0)
 }
 
-// The bytes of an id in hexadecimal digits.
+/// The bytes of an id in hexadecimal digits.
 fn digits(alloc: Global, id: &[u8; 32]) -> Result<Text, WantOfMemory>
     ensures digits { IfOk result (λ text. text ≡ encode_lower id.now) }
     ensures bytes { length id.now ≡ 32 }
@@ -162,7 +169,8 @@ fn digits(alloc: Global, id: &[u8; 32]) -> Result<Text, WantOfMemory>
 }
 
 fn tell_known(args: &[Value], state: &State) -> Result<Value, EvalStop>
-    ensures { (budget : Budget) → Answers result state.now budget (on_text tell_known (plain_values args.now) (running state.now budget)) }
+    ensures { (budget : Budget) → Answers result state.now budget
+        (on_text tell_known (plain_values args.now) (running state.now budget)) }
 {
     match args {
         [name] => find_known(name, state),
@@ -171,7 +179,8 @@ fn tell_known(args: &[Value], state: &State) -> Result<Value, EvalStop>
 }
 
 fn find_known(name: &Value, state: &State) -> Result<Value, EvalStop>
-    ensures { (budget : Budget) → Answers result state.now budget (on_text tell_known (plain name.now ∷ []) (running state.now budget)) }
+    ensures { (budget : Budget) → Answers result state.now budget
+        (on_text tell_known (plain name.now ∷ []) (running state.now budget)) }
 {
     match name {
         Value::Text(name) => Ok(known_object(&state.known, name)),
@@ -180,7 +189,8 @@ fn find_known(name: &Value, state: &State) -> Result<Value, EvalStop>
 }
 
 fn make_known(args: &[Value], object: u32, state: &mut State) -> Result<Value, EvalStop>
-    ensures { (budget : Budget) → Answers result state.new budget (on_text (make_known object) (plain_values args.now) (running state.old budget)) }
+    ensures { (budget : Budget) → Answers result state.new budget
+        (on_text (make_known object) (plain_values args.now) (running state.old budget)) }
 {
     match args {
         [name] => make_known_by(name, object, state),
@@ -189,7 +199,8 @@ fn make_known(args: &[Value], object: u32, state: &mut State) -> Result<Value, E
 }
 
 fn make_known_by(name: &Value, object: u32, state: &mut State) -> Result<Value, EvalStop>
-    ensures { (budget : Budget) → Answers result state.new budget (on_text (make_known object) (plain name.now ∷ []) (running state.old budget)) }
+    ensures { (budget : Budget) → Answers result state.new budget
+        (on_text (make_known object) (plain name.now ∷ []) (running state.old budget)) }
 {
     match name {
         Value::Text(name) => be_known(name, object, state),
@@ -198,7 +209,8 @@ fn make_known_by(name: &Value, object: u32, state: &mut State) -> Result<Value, 
 }
 
 fn exists(args: &[Value], state: &State) -> Result<Value, EvalStop>
-    ensures { (budget : Budget) → Answers result state.now budget (on_ref tell_held (plain_values args.now) (running state.now budget)) }
+    ensures { (budget : Budget) → Answers result state.now budget
+        (on_ref tell_held (plain_values args.now) (running state.now budget)) }
 {
     match args {
         [object] => is_there(object, state),
@@ -207,7 +219,8 @@ fn exists(args: &[Value], state: &State) -> Result<Value, EvalStop>
 }
 
 fn is_there(object: &Value, state: &State) -> Result<Value, EvalStop>
-    ensures { (budget : Budget) → Answers result state.now budget (on_ref tell_held (plain object.now ∷ []) (running state.now budget)) }
+    ensures { (budget : Budget) → Answers result state.now budget
+        (on_ref tell_held (plain object.now ∷ []) (running state.now budget)) }
 {
     match object {
         Value::Ref(id) => Ok(Value::Bool(is_held(state, *id))),
@@ -216,7 +229,8 @@ fn is_there(object: &Value, state: &State) -> Result<Value, EvalStop>
 }
 
 fn take_away(args: &[Value], state: &mut State) -> Result<Value, EvalStop>
-    ensures { (budget : Budget) → Answers result state.new budget (on_ref destroy (plain_values args.now) (running state.old budget)) }
+    ensures { (budget : Budget) → Answers result state.new budget
+        (on_ref destroy (plain_values args.now) (running state.old budget)) }
 {
     match args {
         [object] => take_away_one(object, state),
@@ -225,7 +239,8 @@ fn take_away(args: &[Value], state: &mut State) -> Result<Value, EvalStop>
 }
 
 fn take_away_one(object: &Value, state: &mut State) -> Result<Value, EvalStop>
-    ensures { (budget : Budget) → Answers result state.new budget (on_ref destroy (plain object.now ∷ []) (running state.old budget)) }
+    ensures { (budget : Budget) → Answers result state.new budget
+        (on_ref destroy (plain object.now ∷ []) (running state.old budget)) }
 {
     match object {
         Value::Ref(id) => destroy(state, *id),
@@ -234,7 +249,8 @@ fn take_away_one(object: &Value, state: &mut State) -> Result<Value, EvalStop>
 }
 
 fn make_handler(args: &[Value], object: u32, state: &mut State) -> Result<Value, EvalStop>
-    ensures { (budget : Budget) → Answers result state.new budget (on_texts (subscribe object) (plain_values args.now) (running state.old budget)) }
+    ensures { (budget : Budget) → Answers result state.new budget
+        (on_texts (subscribe object) (plain_values args.now) (running state.old budget)) }
 {
     match args {
         [scope, event, method] => make_handler_of(scope, event, method, object, state),
@@ -249,7 +265,9 @@ fn make_handler_of(
     object: u32,
     state: &mut State,
 ) -> Result<Value, EvalStop>
-    ensures { (budget : Budget) → Answers result state.new budget (on_texts (subscribe object) (plain scope.now ∷ plain event.now ∷ plain method.now ∷ []) (running state.old budget)) }
+    ensures { (budget : Budget) → Answers result state.new budget
+        (on_texts (subscribe object) (plain scope.now ∷ plain event.now ∷ plain method.now ∷ [])
+        (running state.old budget)) }
 {
     match (scope, event, method) {
         (Value::Text(scope), Value::Text(event), Value::Text(method)) => {
@@ -260,7 +278,8 @@ fn make_handler_of(
 }
 
 fn drop_handler(args: &[Value], object: u32, state: &mut State) -> Result<Value, EvalStop>
-    ensures { (budget : Budget) → Answers result state.new budget (on_texts (unsubscribe object) (plain_values args.now) (running state.old budget)) }
+    ensures { (budget : Budget) → Answers result state.new budget
+        (on_texts (unsubscribe object) (plain_values args.now) (running state.old budget)) }
 {
     match args {
         [scope, event, method] => drop_handler_of(scope, event, method, object, state),
@@ -275,7 +294,9 @@ fn drop_handler_of(
     object: u32,
     state: &mut State,
 ) -> Result<Value, EvalStop>
-    ensures { (budget : Budget) → Answers result state.new budget (on_texts (unsubscribe object) (plain scope.now ∷ plain event.now ∷ plain method.now ∷ []) (running state.old budget)) }
+    ensures { (budget : Budget) → Answers result state.new budget
+        (on_texts (unsubscribe object) (plain scope.now ∷ plain event.now ∷ plain method.now ∷ [])
+        (running state.old budget)) }
 {
     match (scope, event, method) {
         (Value::Text(scope), Value::Text(event), Value::Text(method)) => {
@@ -286,7 +307,8 @@ fn drop_handler_of(
 }
 
 fn cancel_calls(args: &[Value], object: u32, state: &mut State) -> Result<Value, EvalStop>
-    ensures { (budget : Budget) → Answers result state.new budget (on_text (cancel object) (plain_values args.now) (running state.old budget)) }
+    ensures { (budget : Budget) → Answers result state.new budget
+        (on_text (cancel object) (plain_values args.now) (running state.old budget)) }
 {
     match args {
         [method] => cancel_calls_of(method, object, state),
@@ -295,7 +317,8 @@ fn cancel_calls(args: &[Value], object: u32, state: &mut State) -> Result<Value,
 }
 
 fn cancel_calls_of(method: &Value, object: u32, state: &mut State) -> Result<Value, EvalStop>
-    ensures { (budget : Budget) → Answers result state.new budget (on_text (cancel object) (plain method.now ∷ []) (running state.old budget)) }
+    ensures { (budget : Budget) → Answers result state.new budget
+        (on_text (cancel object) (plain method.now ∷ []) (running state.old budget)) }
 {
     match method {
         Value::Text(method) => cancel(object, method, state),
@@ -303,9 +326,10 @@ fn cancel_calls_of(method: &Value, object: u32, state: &mut State) -> Result<Val
     }
 }
 
-// Saves the one argument for a later session.
+/// Saves the one argument for a later session.
 fn save(alloc: Global, args: &[Value], state: &mut State) -> Result<Value, EvalStop>
-    ensures { (budget : Budget) → Answers result state.new budget (on_any persist (plain_values args.now) (running state.old budget)) }
+    ensures { (budget : Budget) → Answers result state.new budget
+        (on_any persist (plain_values args.now) (running state.old budget)) }
 {
     match args {
         [value] => persist(alloc, state, value),
@@ -313,7 +337,7 @@ fn save(alloc: Global, args: &[Value], state: &mut State) -> Result<Value, EvalS
     }
 }
 
-// The builtins that need no world.
+/// The builtins that need no world.
 fn pure_of(builtin: Builtin) -> Option<Pure>
     ensures { result ≡ pure_builtin builtin }
 {
@@ -337,7 +361,8 @@ fn answer_pure(
     args: &Values,
     budget: &mut Budget,
 ) -> Result<Value, EvalStop>
-    ensures { Spends result budget.new (λ (state : State). pure_outcome builtin (plain_values args.now) (running state budget.old)) }
+    ensures { Spends result budget.new (λ (state : State).
+        pure_outcome builtin (plain_values args.now) (running state budget.old)) }
 {
     let Some(builtin) = builtin else {
         return Err(EvalStop::Fault(Fault::BadKind));
@@ -350,7 +375,7 @@ fn answer_pure(
     }
 }
 
-// Whether a builtin takes steps by the weight of its result.
+/// Whether a builtin takes steps by the weight of its result.
 fn takes_steps(builtin: Pure) -> bool
     ensures { result ≡ is_dear builtin }
 {

@@ -53,7 +53,9 @@ impl Here<'_> {
         budget: &mut Budget,
     ) -> Result<Value, EvalStop>
         ensures { let here = self.now in
-            Answers result state.new budget.new (evaluates_by here.starter here.object (solved_expression expr.now) (plain_values locals.now) (running state.old budget.old)) }
+            Answers result state.new budget.new
+            (evaluates_by here.starter here.object (solved_expression expr.now) (plain_values locals.now)
+            (running state.old budget.old)) }
     {
         let room = enter(self.starter.room, budget)?;
         match expr {
@@ -72,8 +74,8 @@ impl Here<'_> {
         }
     }
 
-    // What an expression gives, where so many more may be open. This slow way stands in an inlined function of its own, with
-    // a `?` at its end, so that the forms without parts have none of its temporaries.
+    /// What an expression gives, where so many more may be open. This slow way stands in an inlined function of its own, with
+    /// a `?` at its end, so that the forms without parts have none of its temporaries.
     #[cycle(evaluate)]
     #[inline(always)]
     fn evaluate_inside(
@@ -85,14 +87,17 @@ impl Here<'_> {
         budget: &mut Budget,
     ) -> Result<Value, EvalStop>
         ensures { let inside = record (self.now.starter) { room = room } in
-            Answers result state.new budget.new (row_of_expression (checked_tree inside.program.now) (evaluates_by inside) (starts_by inside) self.now.object (solved_expression expr.now) (plain_values locals.now) (running state.old budget.old)) }
+            Answers result state.new budget.new
+            (row_of_expression (checked_tree inside.program.now) (evaluates_by inside)
+            (starts_by inside) self.now.object (solved_expression expr.now) (plain_values locals.now)
+            (running state.old budget.old)) }
     {
         let here = self.with_room(room);
         Ok(here.expression_row(expr, locals, state, budget)?)
     }
 
-    // What each form of expressions gives, once it is entered. Ints, locals, fields and operators do not come here, since they
-    // are taken before; with them the table is whole. It is not inlined, since each place that evaluates would hold it.
+    /// What each form of expressions gives, once it is entered. Ints, locals, fields and operators do not come here, since they
+    /// are taken before; with them the table is whole. It is not inlined, since each place that evaluates would hold it.
     #[cycle(evaluate)]
     #[inline(never)]
     fn expression_row(
@@ -103,7 +108,10 @@ impl Here<'_> {
         budget: &mut Budget,
     ) -> Result<Value, EvalStop>
         ensures { let here = self.now in
-            Answers result state.new budget.new (row_of_expression (checked_tree here.starter.program.now) (evaluates_by here.starter) (starts_by here.starter) here.object (solved_expression expr.now) (plain_values locals.now) (running state.old budget.old)) }
+            Answers result state.new budget.new
+            (row_of_expression (checked_tree here.starter.program.now) (evaluates_by here.starter)
+            (starts_by here.starter) here.object (solved_expression expr.now) (plain_values locals.now)
+            (running state.old budget.old)) }
     {
         match expr {
             SolvedExpr::Nil => Ok(Value::Nil),
@@ -156,7 +164,7 @@ impl Here<'_> {
         }
     }
 
-    // What expressions give, from the first one on.
+    /// What expressions give, from the first one on.
     #[cycle(evaluate)]
     fn evaluate_all(
         &self,
@@ -166,7 +174,9 @@ impl Here<'_> {
         budget: &mut Budget,
     ) -> Result<Values, EvalStop>
         ensures { let here = self.now in
-            AnswersAll result state.new budget.new (evaluate_all (evaluates_by here.starter) here.object (solved_expressions exprs.now) (plain_values locals.now) [] (running state.old budget.old)) }
+            AnswersAll result state.new budget.new
+            (evaluate_all (evaluates_by here.starter) here.object (solved_expressions exprs.now)
+            (plain_values locals.now) [] (running state.old budget.old)) }
     {
         let mut values = List::new(self.starter.alloc);
         for expr in exprs {
@@ -176,7 +186,7 @@ impl Here<'_> {
         Ok(values)
     }
 
-    // What a builtin answers. Publishing alone starts methods.
+    /// What a builtin answers. Publishing alone starts methods.
     #[cycle(evaluate)]
     fn call_builtin(
         &self,
@@ -186,7 +196,9 @@ impl Here<'_> {
         budget: &mut Budget,
     ) -> Result<Value, EvalStop>
         ensures { let here = self.now in
-            Answers result state.new budget.new (run_builtin (checked_tree here.starter.program.now) (starts_by here.starter) builtin here.object (plain_values args.now) (running state.old budget.old)) }
+            Answers result state.new budget.new
+            (run_builtin (checked_tree here.starter.program.now) (starts_by here.starter) builtin here.object
+            (plain_values args.now) (running state.old budget.old)) }
     {
         match builtin {
             Builtin::Publish => self.starter.publish(args.as_slice(), state, budget),
@@ -194,7 +206,7 @@ impl Here<'_> {
         }
     }
 
-    // Runs a statement.
+    /// Runs a statement.
     #[cycle(evaluate)]
     #[tactic(auto, using(crate::proofs::Steps::by_room))]
     fn execute(
@@ -205,14 +217,16 @@ impl Here<'_> {
         budget: &mut Budget,
     ) -> Result<Flow, EvalStop>
         ensures { let here = self.now in
-            Proceeds result frame.new state.new budget.new (executes_by here.starter here.object (solved_statement stmt.now) (plain_values frame.old.locals.items) (running state.old budget.old)) }
+            Proceeds result frame.new state.new budget.new
+            (executes_by here.starter here.object (solved_statement stmt.now) (plain_values frame.old.locals.items)
+            (running state.old budget.old)) }
     {
         let room = enter(self.starter.room, budget)?;
         self.with_room(room)
             .statement_row(stmt, frame, state, budget)
     }
 
-    // What each form of statements does, once it is entered.
+    /// What each form of statements does, once it is entered.
     #[cycle(evaluate)]
     fn statement_row(
         &self,
@@ -222,7 +236,9 @@ impl Here<'_> {
         budget: &mut Budget,
     ) -> Result<Flow, EvalStop>
         ensures { let here = self.now in
-            Proceeds result frame.new state.new budget.new (row_of_statement (evaluates_by here.starter) (executes_by here.starter) here.object (solved_statement stmt.now) (plain_values frame.old.locals.items) (running state.old budget.old)) }
+            Proceeds result frame.new state.new budget.new
+            (row_of_statement (evaluates_by here.starter) (executes_by here.starter) here.object
+            (solved_statement stmt.now) (plain_values frame.old.locals.items) (running state.old budget.old)) }
     {
         match stmt {
             SolvedStmt::Let { slot, value } => {
@@ -263,8 +279,8 @@ impl Here<'_> {
         }
     }
 
-    // Runs a loop. Each test takes a step of fuel, so there are at most so many turns as there are steps left. It is not
-    // inlined, so that other statements hold nothing of it.
+    /// Runs a loop. Each test takes a step of fuel, so there are at most so many turns as there are steps left. It is not
+    /// inlined, so that other statements hold nothing of it.
     #[cycle(evaluate)]
     #[inline(never)]
     #[tactic(auto, using(crate::proofs::Steps::by_turn))]
@@ -277,7 +293,10 @@ impl Here<'_> {
         budget: &mut Budget,
     ) -> Result<Flow, EvalStop>
         ensures { let here = self.now in
-            Proceeds result frame.new state.new budget.new (loop_turns budget.old.fuel (evaluates_by here.starter) (executes_by here.starter) here.object (solved_expression test.now) (solved_statements body.now) (plain_values frame.old.locals.items) (running state.old budget.old)) }
+            Proceeds result frame.new state.new budget.new
+            (loop_turns budget.old.fuel (evaluates_by here.starter) (executes_by here.starter) here.object
+            (solved_expression test.now) (solved_statements body.now) (plain_values frame.old.locals.items)
+            (running state.old budget.old)) }
     {
         let turns = budget.fuel;
         for _turn in 0..turns {
@@ -294,7 +313,7 @@ impl Here<'_> {
         Err(EvalStop::Fault(Fault::Fuel))
     }
 
-    // Runs a block. Behind a block the locals are those that were there before it.
+    /// Runs a block. Behind a block the locals are those that were there before it.
     #[cycle(evaluate)]
     #[tactic(auto, using(crate::proofs::Steps::by_local))]
     fn run_block(
@@ -305,7 +324,9 @@ impl Here<'_> {
         budget: &mut Budget,
     ) -> Result<Flow, EvalStop>
         ensures { let here = self.now in
-            Proceeds result frame.new state.new budget.new (block_of (executes_by here.starter) here.object (solved_statements stmts.now) (plain_values frame.old.locals.items) (running state.old budget.old)) }
+            Proceeds result frame.new state.new budget.new
+            (block_of (executes_by here.starter) here.object (solved_statements stmts.now)
+            (plain_values frame.old.locals.items) (running state.old budget.old)) }
     {
         let before = frame.locals.len();
         let flow = self.run_in_turn(stmts, frame, state, budget)?;
@@ -315,7 +336,7 @@ impl Here<'_> {
         Ok(flow)
     }
 
-    // Runs statements one behind another, until one returns.
+    /// Runs statements one behind another, until one returns.
     #[cycle(evaluate)]
     fn run_in_turn(
         &self,
@@ -325,7 +346,9 @@ impl Here<'_> {
         budget: &mut Budget,
     ) -> Result<Flow, EvalStop>
         ensures { let here = self.now in
-            Proceeds result frame.new state.new budget.new (in_turn (executes_by here.starter) here.object (solved_statements stmts.now) (plain_values frame.old.locals.items) (running state.old budget.old)) }
+            Proceeds result frame.new state.new budget.new
+            (in_turn (executes_by here.starter) here.object (solved_statements stmts.now)
+            (plain_values frame.old.locals.items) (running state.old budget.old)) }
     {
         for stmt in stmts {
             let flow = self.execute(stmt, frame, state, budget)?;
@@ -348,7 +371,8 @@ impl Starter<'_> {
         state: &mut State,
         budget: &mut Budget,
     ) -> Result<Value, EvalStop>
-        ensures { Answers result state.new budget.new (starts_by self.now object method.now (plain_values args) (running state.old budget.old)) }
+        ensures { Answers result state.new budget.new
+            (starts_by self.now object method.now (plain_values args) (running state.old budget.old)) }
     {
         let class = match state.objects.class(object) {
             None => return Err(EvalStop::Fault(Fault::NoObject)),
@@ -360,7 +384,7 @@ impl Starter<'_> {
         }
     }
 
-    // Runs a method on an object.
+    /// Runs a method on an object.
     #[cycle(evaluate)]
     fn perform(
         &self,
@@ -370,7 +394,9 @@ impl Starter<'_> {
         state: &mut State,
         budget: &mut Budget,
     ) -> Result<Value, EvalStop>
-        ensures { Answers result state.new budget.new (perform (checked_tree self.now.program.now) self.now.room object (solved_method solved.now) (plain_values args) (running state.old budget.old)) }
+        ensures { Answers result state.new budget.new
+            (perform (checked_tree self.now.program.now) self.now.room object (solved_method solved.now)
+            (plain_values args) (running state.old budget.old)) }
     {
         if args.len() != solved.params as usize {
             return Err(EvalStop::Fault(Fault::Arity));
@@ -386,7 +412,7 @@ impl Starter<'_> {
         }
     }
 
-    // Starts a method on what a value refers to.
+    /// Starts a method on what a value refers to.
     #[cycle(evaluate)]
     fn call(
         &self,
@@ -396,7 +422,9 @@ impl Starter<'_> {
         state: &mut State,
         budget: &mut Budget,
     ) -> Result<Value, EvalStop>
-        ensures { Answers result state.new budget.new (call_on (starts_by self.now) (plain object.now) method.now (plain_values args) (running state.old budget.old)) }
+        ensures { Answers result state.new budget.new
+            (call_on (starts_by self.now) (plain object.now) method.now (plain_values args)
+            (running state.old budget.old)) }
     {
         match object {
             Value::Ref(object) => self.start(*object, method, args, state, budget),
@@ -404,7 +432,7 @@ impl Starter<'_> {
         }
     }
 
-    // A new object of a class, whose method `init` starts with the options, where its class has one.
+    /// A new object of a class, whose method `init` starts with the options, where its class has one.
     #[cycle(evaluate)]
     fn create(
         &self,
@@ -414,7 +442,9 @@ impl Starter<'_> {
         budget: &mut Budget,
     ) -> Result<Value, EvalStop>
         ensures { let tree = checked_tree self.now.program.now in
-            Answers result state.new budget.new (create_object (starts_by self.now) class (slice_get tree class) (plain options) (running state.old budget.old)) }
+            Answers result state.new budget.new
+            (create_object (starts_by self.now) class (slice_get tree class) (plain options)
+            (running state.old budget.old)) }
     {
         // A checked program has each class that it makes objects of.
         let Some(fields) = self.program.fields(class) else {
@@ -424,7 +454,7 @@ impl Starter<'_> {
         self.initialise(class, id, options, state, budget)
     }
 
-    // Starts the method `init` of a new object, where its class has one, and answers the object.
+    /// Starts the method `init` of a new object, where its class has one, and answers the object.
     #[cycle(evaluate)]
     fn initialise(
         &self,
@@ -435,7 +465,8 @@ impl Starter<'_> {
         budget: &mut Budget,
     ) -> Result<Value, EvalStop>
         ensures { let tree = checked_tree self.now.program.now in (c : ClassTree) → slice_get tree class ≡ Some c →
-            Answers result state.new budget.new (run_init (starts_by self.now) c (plain options) id (running state.old budget.old)) }
+            Answers result state.new budget.new
+            (run_init (starts_by self.now) c (plain options) id (running state.old budget.old)) }
     {
         match init_of(self.alloc, self.program, class)? {
             None => Ok(Value::Ref(id)),
@@ -443,7 +474,7 @@ impl Starter<'_> {
         }
     }
 
-    // Starts a method of a new object with the one argument, and answers the object.
+    /// Starts a method of a new object with the one argument, and answers the object.
     #[cycle(evaluate)]
     fn start_init(
         &self,
@@ -453,14 +484,16 @@ impl Starter<'_> {
         state: &mut State,
         budget: &mut Budget,
     ) -> Result<Value, EvalStop>
-        ensures { Answers result state.new budget.new (and_then (starts_by self.now id init.now (plain options ∷ []) (running state.old budget.old)) (λ _. Gives (ref id))) }
+        ensures { Answers result state.new budget.new
+            (and_then (starts_by self.now id init.now (plain options ∷ []) (running state.old budget.old)) (λ _.
+            Gives (ref id))) }
     {
         let args = only(self.alloc, options)?;
         self.start(id, init, args, state, budget)?;
         Ok(Value::Ref(id))
     }
 
-    // Publishes an event: its scope, its name and a value, where it has these three arguments.
+    /// Publishes an event: its scope, its name and a value, where it has these three arguments.
     #[cycle(evaluate)]
     fn publish(
         &self,
@@ -468,7 +501,9 @@ impl Starter<'_> {
         state: &mut State,
         budget: &mut Budget,
     ) -> Result<Value, EvalStop>
-        ensures { Answers result state.new budget.new (on_event (publish (checked_tree self.now.program.now) (starts_by self.now)) (plain_values args.now) (running state.old budget.old)) }
+        ensures { Answers result state.new budget.new
+            (on_event (publish (checked_tree self.now.program.now) (starts_by self.now)) (plain_values args.now)
+            (running state.old budget.old)) }
     {
         match args {
             [scope, name, value] => self.publish_to(scope, name, value, state, budget),
@@ -477,7 +512,7 @@ impl Starter<'_> {
         }
     }
 
-    // Publishes an event, where its scope and its name are texts.
+    /// Publishes an event, where its scope and its name are texts.
     #[cycle(evaluate)]
     fn publish_to(
         &self,
@@ -487,7 +522,9 @@ impl Starter<'_> {
         state: &mut State,
         budget: &mut Budget,
     ) -> Result<Value, EvalStop>
-        ensures { Answers result state.new budget.new (on_event (publish (checked_tree self.now.program.now) (starts_by self.now)) (plain scope.now ∷ plain name.now ∷ plain value.now ∷ []) (running state.old budget.old)) }
+        ensures { Answers result state.new budget.new
+            (on_event (publish (checked_tree self.now.program.now) (starts_by self.now))
+            (plain scope.now ∷ plain name.now ∷ plain value.now ∷ []) (running state.old budget.old)) }
     {
         match (scope, name) {
             (Value::Text(scope), Value::Text(name)) => {
@@ -503,7 +540,7 @@ impl Starter<'_> {
         }
     }
 
-    // An event stands behind all that was published, and models are told of it.
+    /// An event stands behind all that was published, and models are told of it.
     #[cycle(evaluate)]
     fn publish_event(
         &self,
@@ -512,7 +549,9 @@ impl Starter<'_> {
         budget: &mut Budget,
     ) -> Result<Value, EvalStop>
         requires { event.now.sender ≡ None }
-        ensures { Answers result state.new budget.new (publish (checked_tree self.now.program.now) (starts_by self.now) event.now.scope.now event.now.name.now (plain event.now.value.now) (running state.old budget.old)) }
+        ensures { Answers result state.new budget.new
+            (publish (checked_tree self.now.program.now) (starts_by self.now) event.now.scope.now event.now.name.now
+            (plain event.now.value.now) (running state.old budget.old)) }
     {
         announce(self.alloc, event, state)?;
         self.tell(event, state, budget)?;
@@ -528,13 +567,16 @@ impl Starter<'_> {
         state: &mut State,
         budget: &mut Budget,
     ) -> Result<(), EvalStop>
-        ensures { Did result state.new budget.new (tell_handlers (checked_tree self.now.program.now) (starts_by self.now) event.now.scope.now event.now.name.now (notice_of event.now) (running state.old budget.old)) }
+        ensures { Did result state.new budget.new
+            (tell_handlers (checked_tree self.now.program.now)
+            (starts_by self.now) event.now.scope.now event.now.name.now (notice_of event.now)
+            (running state.old budget.old)) }
     {
         let handlers = state.topics.handlers(event.scope, event.name)?;
         self.tell_all(handlers.as_slice(), event, state, budget)
     }
 
-    // Starts the methods that handle an event, in order.
+    /// Starts the methods that handle an event, in order.
     #[cycle(evaluate)]
     fn tell_all(
         &self,
@@ -543,7 +585,9 @@ impl Starter<'_> {
         state: &mut State,
         budget: &mut Budget,
     ) -> Result<(), EvalStop>
-        ensures { Did result state.new budget.new (run_handlers (checked_tree self.now.program.now) (starts_by self.now) (notice_of event.now) handlers.now (running state.old budget.old)) }
+        ensures { Did result state.new budget.new
+            (run_handlers (checked_tree self.now.program.now) (starts_by self.now) (notice_of event.now) handlers.now
+            (running state.old budget.old)) }
     {
         for handler in handlers {
             self.tell_one(handler, event, state, budget)?;
@@ -551,7 +595,7 @@ impl Starter<'_> {
         Ok(())
     }
 
-    // Starts one such method and takes a step for it, unless its object is gone.
+    /// Starts one such method and takes a step for it, unless its object is gone.
     #[cycle(evaluate)]
     fn tell_one(
         &self,
@@ -560,7 +604,9 @@ impl Starter<'_> {
         state: &mut State,
         budget: &mut Budget,
     ) -> Result<(), EvalStop>
-        ensures { Did result state.new budget.new (handle (checked_tree self.now.program.now) (starts_by self.now) (notice_of event.now) handler.now (running state.old budget.old)) }
+        ensures { Did result state.new budget.new
+            (handle (checked_tree self.now.program.now) (starts_by self.now) (notice_of event.now) handler.now
+            (running state.old budget.old)) }
     {
         if !is_held(state, handler.object) {
             return Ok(());
@@ -584,7 +630,7 @@ pub fn enter(room: u32, budget: &mut Budget) -> Result<u32, EvalStop>
     Ok(room - 1)
 }
 
-// Takes a step of fuel.
+/// Takes a step of fuel.
 fn take_step(budget: &mut Budget) -> Result<(), EvalStop>
     ensures { TakesStep result budget.old budget.new }
 {

@@ -16,7 +16,9 @@ use world_state::{EvalStop, Fault, State, is_held};
 
 /// Puts an event behind all that was published.
 pub fn announce(alloc: Global, event: &Event<'_>, state: &mut State) -> Result<(), WantOfMemory>
-    ensures { let e = event.now in OnOk result ((budget : Budget) → running state.new budget ≡ with_outgoing e.scope.now e.name.now (plain e.value.now) (running state.old budget)) }
+    ensures { let e = event.now in OnOk result ((budget : Budget)
+        → running state.new budget ≡ with_outgoing e.scope.now e.name.now (plain e.value.now)
+        (running state.old budget)) }
 {
     let outgoing = Outgoing {
         time: state.time,
@@ -38,7 +40,8 @@ pub fn subscribe(
     object: u32,
     state: &mut State,
 ) -> Result<Value, EvalStop>
-    ensures { (budget : Budget) → Answers result state.new budget (subscribe object scope.now event.now method.now (running state.old budget)) }
+    ensures { (budget : Budget) → Answers result state.new budget
+        (subscribe object scope.now event.now method.now (running state.old budget)) }
 {
     if !is_held(state, object) {
         return Err(EvalStop::Fault(Fault::NoObject));
@@ -60,7 +63,7 @@ fn add(new: Subscription, state: &mut State) -> Result<Value, EvalStop>
     Ok(Value::Nil)
 }
 
-// Whether the world is light enough with one more subscription.
+/// Whether the world is light enough with one more subscription.
 fn has_room(state: &State, new: &Subscription) -> bool
     ensures { result ≡ nat_le (world_weight (world_of state.now) + subscription_weight new.now) most_world_weight }
 {
@@ -79,7 +82,8 @@ pub fn unsubscribe(
     object: u32,
     state: &mut State,
 ) -> Result<Value, EvalStop>
-    ensures { (budget : Budget) → Answers result state.new budget (unsubscribe object scope.now event.now method.now (running state.old budget)) }
+    ensures { (budget : Budget) → Answers result state.new budget
+        (unsubscribe object scope.now event.now method.now (running state.old budget)) }
 {
     if !is_held(state, object) {
         return Err(EvalStop::Fault(Fault::NoObject));

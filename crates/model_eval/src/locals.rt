@@ -31,10 +31,10 @@ impl Frame {
 
 /// A copy of what a local holds.
 #[inline(always)]
-pub fn get_local(alloc: Global, locals: &[Value], slot: u32) -> Result<Value, EvalStop>
+pub fn get_local(alloc: Global, locals: &[Value], slot: usize) -> Result<Value, EvalStop>
     ensures { Replies result (reply_value (slice_index_or (plain_values locals.now) slot nil)) }
 {
-    match locals.get(slot as usize) {
+    match locals.get(slot) {
         Some(value) => copy_value(alloc, value),
         None => Ok(Value::Nil),
     }
@@ -42,20 +42,20 @@ pub fn get_local(alloc: Global, locals: &[Value], slot: u32) -> Result<Value, Ev
 
 /// One more local, behind those of the slots below.
 #[tactic(auto, using(crate::proofs::Steps::by_local))]
-pub fn declare(locals: &mut Vec<Value>, slot: u32, value: Value) -> Result<(), WantOfMemory>
-    ensures { OnOk result (plain_values locals.new.items ≡ take slot (plain_values locals.old.items) ++ plain value ∷ []) }
+pub fn declare(locals: &mut Vec<Value>, slot: usize, value: Value) -> Result<(), WantOfMemory>
+    ensures { OnOk result (plain_values locals.new.items ≡ take slot (plain_values locals.old.items) ++ plain value
+        ∷ []) }
 {
-    locals.truncate(slot as usize);
+    locals.truncate(slot);
     locals.push(value)?;
     Ok(())
 }
 
 /// A local holds another value.
 #[tactic(auto, using(crate::proofs::Steps::by_assignment))]
-pub fn assign(locals: &mut Vec<Value>, slot: u32, value: Value)
+pub fn assign(locals: &mut Vec<Value>, slot: usize, value: Value)
     ensures { plain_values locals.new.items ≡ slice_set (plain_values locals.old.items) slot (plain value) }
 {
-    let slot = slot as usize;
     if slot < locals.len() {
         locals[slot] = value;
     }

@@ -26,7 +26,8 @@ pub fn send(
     method: &Text,
     args: Values,
 ) -> Result<Value, EvalStop>
-    ensures { (budget : Budget) → Answers result state.new budget (sends (plain object.now) (plain delay.now) method.now (plain_values args) (running state.old budget)) }
+    ensures { (budget : Budget) → Answers result state.new budget
+        (sends (plain object.now) (plain delay.now) method.now (plain_values args) (running state.old budget)) }
 {
     match (object, delay) {
         (Value::Ref(object), Value::Int(delay)) => send_to(state, *object, *delay, method, args),
@@ -42,7 +43,8 @@ fn send_to(
     args: Values,
 ) -> Result<Value, EvalStop>
     ensures { (budget : Budget) → let r = running state.old budget in
-        Answers result state.new budget (send_to (object_at r.world.objects object) object delay method.now (plain_values args) r) }
+        Answers result state.new budget
+        (send_to (object_at r.world.objects object) object delay method.now (plain_values args) r) }
 {
     if !is_held(state, object) {
         return Err(EvalStop::Fault(Fault::NoObject));
@@ -60,7 +62,8 @@ fn send_message_at(
     method: &Text,
     args: Values,
 ) -> Result<Value, EvalStop>
-    ensures { (budget : Budget) → Answers result state.new budget (send_message_at object method.now (plain_values args) (Some time) (running state.old budget)) }
+    ensures { (budget : Budget) → Answers result state.new budget
+        (send_message_at object method.now (plain_values args) (Some time) (running state.old budget)) }
 {
     if time == state.time && state.turns == MOST_TURNS {
         return Err(EvalStop::Fault(Fault::Instant));
@@ -73,7 +76,7 @@ fn send_message_at(
     Ok(Value::Nil)
 }
 
-// The time so many milliseconds ahead.
+/// The time so many milliseconds ahead.
 fn ahead(time: u64, delay: i64) -> Option<u64>
     ensures { result ≡ ahead_of time delay }
 {
@@ -82,9 +85,10 @@ fn ahead(time: u64, delay: i64) -> Option<u64>
     if time < TIME_LIMIT { Some(time) } else { None }
 }
 
-// Whether the world is light enough with one more message.
+/// Whether the world is light enough with one more message.
 fn has_room(state: &State, method: &Text, args: &Values) -> bool
-    ensures { result ≡ nat_le (world_weight (world_of state.now) + (3 + text_weight method.now + values_weight (plain_values args.now))) most_world_weight }
+    ensures { result ≡ nat_le (world_weight (world_of state.now)
+        + (3 + text_weight method.now + values_weight (plain_values args.now))) most_world_weight }
 {
     match state.room() {
         None => false,
@@ -95,7 +99,8 @@ fn has_room(state: &State, method: &Text, args: &Values) -> bool
 /// Takes away the messages to come that call a method of an object, and tells how many there were. Gives the fault NoObject where
 /// the object is gone.
 pub fn cancel(object: u32, method: &Text, state: &mut State) -> Result<Value, EvalStop>
-    ensures { (budget : Budget) → Answers result state.new budget (cancel object method.now (running state.old budget)) }
+    ensures { (budget : Budget) → Answers result state.new budget
+        (cancel object method.now (running state.old budget)) }
 {
     if !is_held(state, object) {
         return Err(EvalStop::Fault(Fault::NoObject));

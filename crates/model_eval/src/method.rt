@@ -30,7 +30,9 @@ pub fn run_method(
     budget: &mut Budget,
 ) -> Result<Value, EvalStop>
     ensures answers { let c = call.entry in
-        Answers result state.new budget.new (starts (checked_tree program.now) budget.old.room c.object c.method.now (plain_values c.args) (running state.old budget.old)) }
+        Answers result state.new budget.new
+        (starts (checked_tree program.now) budget.old.room c.object c.method.now (plain_values c.args)
+        (running state.old budget.old)) }
     ensures room { budget.new.room ≡ budget.old.room }
 {
     let room = budget.room;
@@ -64,7 +66,10 @@ pub fn tell_models(
     budget: &mut Budget,
 ) -> Result<(), EvalStop>
     ensures tells { let e = event.now in
-        Did result state.new budget.new (tell_handlers (checked_tree program.now) (starts (checked_tree program.now) budget.old.room) e.scope.now e.name.now (notice_of e) (running state.old budget.old)) }
+        Did result state.new budget.new
+        (tell_handlers (checked_tree program.now)
+        (starts (checked_tree program.now) budget.old.room) e.scope.now e.name.now (notice_of e)
+        (running state.old budget.old)) }
     ensures room { budget.new.room ≡ budget.old.room }
 {
     let room = budget.room;

@@ -11,7 +11,8 @@ use tea_base::{Text, WantOfMemory};
 
 /// The name `init`, where the class has a method of this name.
 pub fn init_of(alloc: Global, program: &Checked, class: u16) -> Result<Option<Text>, WantOfMemory>
-    ensures { IfOk result (λ found. (c : ClassTree) → slice_get (checked_tree program.now) class ≡ Some c → HasInit found c) }
+    ensures { IfOk result (λ found. (c : ClassTree) → slice_get (checked_tree program.now) class ≡ Some c
+        → HasInit found c) }
 {
     let init = init(alloc)?;
     match program.method(class, &init) {

@@ -38,7 +38,9 @@ impl Here<'_> {
         budget: &mut Budget,
     ) -> Result<Value, EvalStop>
         ensures { let inside = record (self.now.starter) { room = room } in
-            Answers result state.new budget.new (operates_by inside self.now.object operation.entry.op (solved_expression operation.entry.left.now) (solved_expression operation.entry.right.now) (plain_values locals.now) (running state.old budget.old)) }
+            Answers result state.new budget.new
+            (operates_by inside self.now.object operation.entry.op (solved_expression operation.entry.left.now)
+            (solved_expression operation.entry.right.now) (plain_values locals.now) (running state.old budget.old)) }
     {
         match self.int_sides(operation, locals, state) {
             Some((left, right)) => {
@@ -51,8 +53,8 @@ impl Here<'_> {
         }
     }
 
-    // The same, whatever the sides are. This slow way stands in an inlined function of its own, with a `?` at its end, so that
-    // the fast way has none of its temporaries.
+    /// The same, whatever the sides are. This slow way stands in an inlined function of its own, with a `?` at its end, so that
+    /// the fast way has none of its temporaries.
     #[cycle(evaluate)]
     #[inline(always)]
     fn evaluate_sides(
@@ -64,14 +66,16 @@ impl Here<'_> {
         budget: &mut Budget,
     ) -> Result<Value, EvalStop>
         ensures { let inside = record (self.now.starter) { room = room } in
-            Answers result state.new budget.new (operates_by inside self.now.object operation.entry.op (solved_expression operation.entry.left.now) (solved_expression operation.entry.right.now) (plain_values locals.now) (running state.old budget.old)) }
+            Answers result state.new budget.new
+            (operates_by inside self.now.object operation.entry.op (solved_expression operation.entry.left.now)
+            (solved_expression operation.entry.right.now) (plain_values locals.now) (running state.old budget.old)) }
     {
         let here = self.with_room(room);
         Ok(here.evaluate_binary(operation, locals, state, budget)?)
     }
 
-    // The Ints of both sides, where these are leaves and the operator evaluates both. The right one is asked first: it is the
-    // one that more often has parts of its own, and then the left one is not read.
+    /// The Ints of both sides, where these are leaves and the operator evaluates both. The right one is asked first: it is the
+    /// one that more often has parts of its own, and then the left one is not read.
     #[inline(always)]
     fn int_sides(
         &self,
@@ -80,7 +84,10 @@ impl Here<'_> {
         state: &State,
     ) -> Option<(i64, i64)>
         ensures { let object = self.now.object in
-            IfSome result (λ ints. EvaluatesBoth operation.entry.op × GivesInt state.now object (solved_expression operation.entry.left.now) (plain_values locals.now) ints.0 × GivesInt state.now object (solved_expression operation.entry.right.now) (plain_values locals.now) ints.1) }
+            IfSome result (λ ints. EvaluatesBoth operation.entry.op
+            × GivesInt state.now object (solved_expression operation.entry.left.now) (plain_values locals.now) ints.0
+            × GivesInt state.now object (solved_expression operation.entry.right.now)
+            (plain_values locals.now) ints.1) }
     {
         if matches!(operation.op, BinaryOp::Or | BinaryOp::And) {
             return None;
@@ -90,14 +97,15 @@ impl Here<'_> {
         Some((left, right))
     }
 
-    // The Int that a leaf gives, where it gives one.
+    /// The Int that a leaf gives, where it gives one.
     #[inline(always)]
     fn int_of_leaf(&self, leaf: &SolvedExpr, locals: &[Value], state: &State) -> Option<i64>
-        ensures { IfSome result (λ number. GivesInt state.now self.now.object (solved_expression leaf.now) (plain_values locals.now) number) }
+        ensures { IfSome result (λ number.
+            GivesInt state.now self.now.object (solved_expression leaf.now) (plain_values locals.now) number) }
     {
         match leaf {
             SolvedExpr::Int(number) => Some(*number),
-            SolvedExpr::Local { slot } => held_int(locals.get(*slot as usize)),
+            SolvedExpr::Local { slot } => held_int(locals.get(*slot)),
             SolvedExpr::Field { slot } => held_int(state.objects.field(self.object, *slot)),
             _ => None,
         }
@@ -114,7 +122,9 @@ impl Here<'_> {
         budget: &mut Budget,
     ) -> Result<Value, EvalStop>
         ensures { let here = self.now in
-            Answers result state.new budget.new (operates_by here.starter here.object operation.entry.op (solved_expression operation.entry.left.now) (solved_expression operation.entry.right.now) (plain_values locals.now) (running state.old budget.old)) }
+            Answers result state.new budget.new
+            (operates_by here.starter here.object operation.entry.op (solved_expression operation.entry.left.now)
+            (solved_expression operation.entry.right.now) (plain_values locals.now) (running state.old budget.old)) }
     {
         let (left, right) = (operation.left, operation.right);
         match operation.op {
@@ -127,7 +137,7 @@ impl Here<'_> {
         operate(operation.op, left, right)
     }
 
-    // What `||` gives. The right side is evaluated only where the left is false.
+    /// What `||` gives. The right side is evaluated only where the left is false.
     #[cycle(evaluate)]
     fn evaluate_or(
         &self,
@@ -138,7 +148,9 @@ impl Here<'_> {
         budget: &mut Budget,
     ) -> Result<Value, EvalStop>
         ensures { let here = self.now in
-            Answers result state.new budget.new (operates_by here.starter here.object BinaryOp.Or (solved_expression left.now) (solved_expression right.now) (plain_values locals.now) (running state.old budget.old)) }
+            Answers result state.new budget.new
+            (operates_by here.starter here.object BinaryOp.Or (solved_expression left.now) (solved_expression right.now)
+            (plain_values locals.now) (running state.old budget.old)) }
     {
         let value = self.evaluate(left, locals, state, budget)?;
         if truth(&value)? {
@@ -148,7 +160,7 @@ impl Here<'_> {
         }
     }
 
-    // What `&&` gives. The right side is evaluated only where the left is true.
+    /// What `&&` gives. The right side is evaluated only where the left is true.
     #[cycle(evaluate)]
     fn evaluate_and(
         &self,
@@ -159,7 +171,9 @@ impl Here<'_> {
         budget: &mut Budget,
     ) -> Result<Value, EvalStop>
         ensures { let here = self.now in
-            Answers result state.new budget.new (operates_by here.starter here.object BinaryOp.And (solved_expression left.now) (solved_expression right.now) (plain_values locals.now) (running state.old budget.old)) }
+            Answers result state.new budget.new
+            (operates_by here.starter here.object BinaryOp.And (solved_expression left.now)
+            (solved_expression right.now) (plain_values locals.now) (running state.old budget.old)) }
     {
         let value = self.evaluate(left, locals, state, budget)?;
         if truth(&value)? {
@@ -169,7 +183,7 @@ impl Here<'_> {
         }
     }
 
-    // The right side of `||` and `&&`, which has to be a truth.
+    /// The right side of `||` and `&&`, which has to be a truth.
     #[cycle(evaluate)]
     fn evaluate_truth(
         &self,
@@ -179,14 +193,16 @@ impl Here<'_> {
         budget: &mut Budget,
     ) -> Result<Value, EvalStop>
         ensures { let here = self.now in
-            Answers result state.new budget.new (truth_of_right (evaluates_by here.starter here.object (solved_expression right.now) (plain_values locals.now)) (running state.old budget.old)) }
+            Answers result state.new budget.new
+            (truth_of_right (evaluates_by here.starter here.object (solved_expression right.now)
+            (plain_values locals.now)) (running state.old budget.old)) }
     {
         let value = self.evaluate(right, locals, state, budget)?;
         Ok(Value::Bool(truth(&value)?))
     }
 }
 
-// The Int that a place holds, where it is one.
+/// The Int that a place holds, where it is one.
 #[inline(always)]
 fn held_int(place: Option<&Value>) -> Option<i64>
     ensures { IfSome result (λ number. option_map plain (option_copied place.entry) ≡ Some (int number)) }

@@ -90,7 +90,7 @@ pub fn operate_on_ints(op: BinaryOp, left: i64, right: i64) -> Result<Value, Eva
     }
 }
 
-// The quotient, cut towards zero.
+/// The quotient, cut towards zero.
 fn quotient(left: i64, right: i64) -> Result<Value, EvalStop>
     ensures { Replies result (apply_binary BinaryOp.Divide (int left) (int right)) }
 {
@@ -100,7 +100,7 @@ fn quotient(left: i64, right: i64) -> Result<Value, EvalStop>
     int_or_overflow(left.checked_div(right))
 }
 
-// The remainder, with the sign of the left number. Where the quotient does not fit there is none.
+/// The remainder, with the sign of the left number. Where the quotient does not fit there is none.
 fn rest(left: i64, right: i64) -> Result<Value, EvalStop>
     ensures { Replies result (apply_binary BinaryOp.Rest (int left) (int right)) }
 {
@@ -120,7 +120,7 @@ pub fn truth(value: &Value) -> Result<bool, EvalStop>
     }
 }
 
-// A number that fits, or the fault.
+/// A number that fits, or the fault.
 fn int_or_overflow(number: Option<i64>) -> Result<Value, EvalStop>
     ensures { MatchOption number (result ≡ Err (EvalStop.Fault Fault.Overflow)) (λ n. result ≡ Ok (Value.Int n)) }
 {

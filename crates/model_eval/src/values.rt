@@ -15,7 +15,8 @@ use world_state::{Budget, EvalStop, Fault};
 
 /// The value of a text literal. Gives the fault Size where it is not in bounds.
 pub fn literal(text: &Text) -> Result<Value, EvalStop>
-    ensures { (state : State) (budget : Budget) → Answers result state budget (give_in_bounds (text_value text.now) (running state budget)) }
+    ensures { (state : State) (budget : Budget)
+        → Answers result state budget (give_in_bounds (text_value text.now) (running state budget)) }
 {
     let value = Value::Text(text.try_clone()?);
     if in_bounds(&value) {
@@ -27,7 +28,8 @@ pub fn literal(text: &Text) -> Result<Value, EvalStop>
 
 /// A list of values. Gives the fault Size where it is not in bounds, and takes steps by its weight.
 pub fn list_of(values: Values, budget: &mut Budget) -> Result<Value, EvalStop>
-    ensures { Spends result budget.new (λ (state : State). give_by_weight (list (plains_of (plain_values values))) (running state budget.old)) }
+    ensures { Spends result budget.new (λ (state : State).
+        give_by_weight (list (plains_of (plain_values values))) (running state budget.old)) }
 {
     let value = Value::List(values.into_vec());
     if !in_bounds(&value) {
@@ -39,7 +41,8 @@ pub fn list_of(values: Values, budget: &mut Budget) -> Result<Value, EvalStop>
 /// A value that takes steps by its weight. Gives the fault Fuel, and takes none, where fewer are left.
 pub fn weigh(value: Value, budget: &mut Budget) -> Result<Value, EvalStop>
     requires { weight_of (plain value) < 2 ^ 32 }
-    ensures { Spends result budget.new (λ (state : State). spend (weight_of (plain value)) (running state budget.old) (Gives (plain value))) }
+    ensures { Spends result budget.new (λ (state : State).
+        spend (weight_of (plain value)) (running state budget.old) (Gives (plain value))) }
 {
     let steps = weight(&value);
     if budget.fuel < steps {

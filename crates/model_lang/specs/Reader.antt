@@ -107,19 +107,24 @@ ExpressionReader = List Token → ParseResult Expression
 abbrev pub read_more : Symbol → ExpressionReader → ℕ → List Expression → List Token → ParseResult (List Expression)
 read_more close inner zero found ts = None
 read_more close inner (suc turns) found ts =
-    either_way (after_symbol s.Comma ts) (λ ts. on_read (inner ts) (λ e. read_more close inner turns (found ++ e ∷ []))) (on_rest (after_symbol close ts) (λ rest. Some (found, rest)))
+    either_way (after_symbol s.Comma ts) (λ ts. on_read (inner ts) (λ e. read_more close inner turns (found ++ e ∷ [])))
+    (on_rest (after_symbol close ts) (λ rest. Some (found, rest)))
 
 abbrev pub read_args : Symbol → ExpressionReader → List Token → ParseResult (List Expression)
-read_args close inner ts = either_way (after_symbol close ts) (λ rest. Some ([], rest)) (on_read (inner ts) (λ e rest. read_more close inner (length ts) (e ∷ []) rest))
+read_args close inner ts = either_way (after_symbol close ts) (λ rest. Some ([], rest))
+    (on_read (inner ts) (λ e rest. read_more close inner (length ts) (e ∷ []) rest))
 
 -- behind a name at the start of a prim
 abbrev pub read_named : ExpressionReader → Name → ExpressionReader
 read_named inner x ts =
-    either_way (after_symbol s.OpenRound ts) (λ ts. on_read (read_args s.CloseRound inner ts) (λ args ts. Some (builtin x (expressions_of args), ts))) (Some (local x, ts))
+    either_way (after_symbol s.OpenRound ts) (λ ts.
+    on_read (read_args s.CloseRound inner ts) (λ args ts. Some (builtin x (expressions_of args), ts)))
+    (Some (local x, ts))
 
 -- `.` and a name that no `(` follows
 abbrev pub field_at : List Token → ParseResult Name
-field_at ts = on_rest (after_symbol s.Dot ts) (λ ts. on_read (name_at ts) (λ x ts. either_way (after_symbol s.OpenRound ts) (λ rest. None) (Some (x, ts))))
+field_at ts = on_rest (after_symbol s.Dot ts) (λ ts.
+    on_read (name_at ts) (λ x ts. either_way (after_symbol s.OpenRound ts) (λ rest. None) (Some (x, ts))))
 
 -- behind `this`
 abbrev pub read_this : ExpressionReader
@@ -128,7 +133,8 @@ read_this ts = on_found (field_at ts) (λ x ts. Some (field x, ts)) (Some (this,
 -- behind `create`
 abbrev pub read_create : ExpressionReader → ExpressionReader
 read_create inner ts =
-    on_rest (after_symbol s.OpenRound ts) (λ ts. on_read (class_name_at ts) (λ x ts. on_rest (after_symbol s.Comma ts) (λ ts.
+    on_rest (after_symbol s.OpenRound ts) (λ ts.
+    on_read (class_name_at ts) (λ x ts. on_rest (after_symbol s.Comma ts) (λ ts.
     on_read (inner ts) (λ e ts. on_rest (after_symbol s.CloseRound ts) (λ ts. Some (create x e, ts))))))
 
 abbrev pub read_word : ExpressionReader → Word → ExpressionReader
@@ -140,8 +146,10 @@ read_word inner w.Create ts = read_create inner ts
 read_word inner _ ts = None
 
 abbrev pub read_opened : ExpressionReader → Symbol → ExpressionReader
-read_opened inner s.OpenRound ts = on_read (inner ts) (λ e ts. on_rest (after_symbol s.CloseRound ts) (λ ts. Some (e, ts)))
-read_opened inner s.OpenSquare ts = on_read (read_args s.CloseSquare inner ts) (λ items ts. Some (list (expressions_of items), ts))
+read_opened inner s.OpenRound ts =
+    on_read (inner ts) (λ e ts. on_rest (after_symbol s.CloseRound ts) (λ ts. Some (e, ts)))
+read_opened inner s.OpenSquare ts =
+    on_read (read_args s.CloseSquare inner ts) (λ items ts. Some (list (expressions_of items), ts))
 read_opened inner _ ts = None
 
 abbrev pub read_prim : ExpressionReader → ExpressionReader
@@ -162,12 +170,15 @@ message_head ts = on_rest (after_symbol s.CloseRound ts) (λ ts. on_rest (after_
 
 -- the name of a class between `(` and `,`
 abbrev pub create_head : List Token → ParseResult Name
-create_head ts = on_rest (after_symbol s.OpenRound ts) (λ ts. on_read (class_name_at ts) (λ x ts. on_rest (after_symbol s.Comma ts) (λ ts. Some (x, ts))))
+create_head ts = on_rest (after_symbol s.OpenRound ts) (λ ts.
+    on_read (class_name_at ts) (λ x ts. on_rest (after_symbol s.Comma ts) (λ ts. Some (x, ts))))
 
 -- a call behind its `.`
 abbrev pub read_call : ExpressionReader → Expression → ExpressionReader
 read_call inner object ts =
-    on_read (name_at ts) (λ x ts. on_rest (after_symbol s.OpenRound ts) (λ ts. on_read (read_args s.CloseRound inner ts) (λ args ts. Some (call object x (expressions_of args), ts))))
+    on_read (name_at ts) (λ x ts.
+    on_rest (after_symbol s.OpenRound ts) (λ ts.
+    on_read (read_args s.CloseRound inner ts) (λ args ts. Some (call object x (expressions_of args), ts))))
 
 -- a future behind its delay
 abbrev pub read_message : ExpressionReader → Expression → Expression → ExpressionReader
@@ -178,7 +189,8 @@ read_message inner object delay ts =
 -- a future behind `.future`
 abbrev pub read_future : ExpressionReader → Expression → ExpressionReader
 read_future inner object ts =
-    on_rest (after_symbol s.OpenRound ts) (λ ts. on_read (inner ts) (λ delay ts. on_rest (after_symbol s.CloseRound ts) (read_message inner object delay)))
+    on_rest (after_symbol s.OpenRound ts) (λ ts.
+    on_read (inner ts) (λ delay ts. on_rest (after_symbol s.CloseRound ts) (read_message inner object delay)))
 
 -- behind the `.` of a call or a future
 abbrev pub read_suffix : ExpressionReader → Expression → ExpressionReader
@@ -187,7 +199,9 @@ read_suffix inner object ts = either_way (after_word w.Future ts) (read_future i
 -- at most so many calls and futures, each of what stands before it
 abbrev pub suffixes_of : ExpressionReader → ℕ → Expression → ExpressionReader
 suffixes_of inner zero object ts = Some (object, ts)
-suffixes_of inner (suc turns) object ts = either_way (after_symbol s.Dot ts) (λ ts. on_read (read_suffix inner object ts) (suffixes_of inner turns)) (Some (object, ts))
+suffixes_of inner (suc turns) object ts =
+    either_way (after_symbol s.Dot ts) (λ ts. on_read (read_suffix inner object ts) (suffixes_of inner turns))
+    (Some (object, ts))
 
 abbrev pub read_post : ExpressionReader → ExpressionReader
 read_post inner ts = on_read (read_prim inner ts) (suffixes_of inner (length ts))
@@ -234,7 +248,8 @@ operator_at k _ = None
 abbrev pub more_of : ℕ → ExpressionReader → ℕ → Expression → ExpressionReader
 more_of k inner zero left ts = Some (left, ts)
 more_of k inner (suc turns) left ts =
-    on_found (operator_at k ts) (λ o ts. on_read (inner ts) (λ e. more_of k inner turns (binary o left e))) (Some (left, ts))
+    on_found (operator_at k ts) (λ o ts. on_read (inner ts) (λ e. more_of k inner turns (binary o left e)))
+    (Some (left, ts))
 
 -- how many operators of a line may stand one behind the other, among so many tokens. Relations do not group
 abbrev pub turns_of : ℕ → ℕ → ℕ
@@ -245,13 +260,15 @@ unfoldable pub read_operator_line : ExpressionReader → ℕ → ExpressionReade
 read_operator_line inner zero ts = inner ts
 read_operator_line inner (suc zero) ts = inner ts
 read_operator_line inner (suc (suc k)) ts =
-    on_read (read_operator_line inner (suc k) ts) (more_of (suc (suc k)) (read_operator_line inner (suc k)) (turns_of (suc (suc k)) (length ts)))
+    on_read (read_operator_line inner (suc k) ts)
+    (more_of (suc (suc k)) (read_operator_line inner (suc k)) (turns_of (suc (suc k)) (length ts)))
 
 -- with at most so many signs and brackets one in another
 abbrev pub read_unary : ℕ → ExpressionReader
 read_unary zero ts = None
 read_unary (suc room) ts =
-    on_found (sign_at ts) (λ o ts. on_read (read_unary room ts) (λ e ts. Some (unary o e, ts))) (read_post (read_operator_line (read_unary room) 6) ts)
+    on_found (sign_at ts) (λ o ts. on_read (read_unary room ts) (λ e ts. Some (unary o e, ts)))
+    (read_post (read_operator_line (read_unary room) 6) ts)
 
 abbrev pub read_expression : ExpressionReader
 read_expression ts = read_operator_line (read_unary (length ts)) 6 ts
@@ -280,26 +297,35 @@ set_at ts = on_rest (after_word w.This ts) (λ ts. on_rest (after_symbol s.Dot t
 
 -- a statement that no word begins which stands before statements alone
 abbrev pub read_simple : List Token → ParseResult Statement
-read_simple ts = on_found (assign_head ts) (λ x. read_end (assign x)) (on_found (set_at ts) (λ x. read_end (set_field x)) (read_end do_ ts))
+read_simple ts = on_found (assign_head ts) (λ x. read_end (assign x))
+    (on_found (set_at ts) (λ x. read_end (set_field x)) (read_end do_ ts))
 
 -- an expression in round brackets, and the opening brace behind it
 abbrev pub read_test : List Token → ParseResult Expression
 read_test ts =
-    on_rest (after_symbol s.OpenRound ts) (λ ts. on_read (read_expression ts) (λ e ts. on_rest (after_symbol s.CloseRound ts) (λ ts. on_rest (after_symbol s.OpenBrace ts) (λ ts. Some (e, ts)))))
+    on_rest (after_symbol s.OpenRound ts) (λ ts.
+    on_read (read_expression ts) (λ e ts.
+    on_rest (after_symbol s.CloseRound ts) (λ ts. on_rest (after_symbol s.OpenBrace ts) (λ ts. Some (e, ts)))))
 
 -- behind `else`
-abbrev pub read_else : (List Token → ParseResult (List Statement)) → Expression → List Statement → List Token → ParseResult Statement
+abbrev pub read_else : (List Token → ParseResult (List Statement)) → Expression → List Statement → List Token
+    → ParseResult Statement
 read_else block test found ts =
-    on_rest (after_symbol s.OpenBrace ts) (λ ts. on_read (block ts) (λ other ts. Some (when test (statements_of found) (else_block (statements_of other)), ts)))
+    on_rest (after_symbol s.OpenBrace ts) (λ ts.
+    on_read (block ts) (λ other ts. Some (when test (statements_of found) (else_block (statements_of other)), ts)))
 
 -- behind `if`
 abbrev pub read_if : (List Token → ParseResult (List Statement)) → List Token → ParseResult Statement
 read_if block ts =
-    on_read (read_test ts) (λ test ts. on_read (block ts) (λ found ts. either_way (after_word w.Else ts) (read_else block test found) (Some (when test (statements_of found) no_else, ts))))
+    on_read (read_test ts) (λ test ts.
+    on_read (block ts) (λ found ts.
+    either_way (after_word w.Else ts) (read_else block test found)
+    (Some (when test (statements_of found) no_else, ts))))
 
 -- behind `while`
 abbrev pub read_while : (List Token → ParseResult (List Statement)) → List Token → ParseResult Statement
-read_while block ts = on_read (read_test ts) (λ test ts. on_read (block ts) (λ body ts. Some (while test (statements_of body), ts)))
+read_while block ts = on_read (read_test ts) (λ test ts.
+    on_read (block ts) (λ body ts. Some (while test (statements_of body), ts)))
 
 abbrev pub read_action : (List Token → ParseResult (List Statement)) → List Token → ParseResult Statement
 read_action block ts =
@@ -309,10 +335,12 @@ read_action block ts =
     (either_way (after_word w.Return ts) (read_end give) (read_simple ts))))
 
 -- up to the closing brace, which is read too
-abbrev pub read_actions : (List Token → ParseResult (List Statement)) → ℕ → List Statement → List Token → ParseResult (List Statement)
+abbrev pub read_actions : (List Token → ParseResult (List Statement)) → ℕ → List Statement → List Token
+    → ParseResult (List Statement)
 read_actions block zero found ts = None
 read_actions block (suc turns) found ts =
-    either_way (after_symbol s.CloseBrace ts) (λ rest. Some (found, rest)) (on_read (read_action block ts) (λ a. read_actions block turns (found ++ a ∷ [])))
+    either_way (after_symbol s.CloseBrace ts) (λ rest. Some (found, rest))
+    (on_read (read_action block ts) (λ a. read_actions block turns (found ++ a ∷ [])))
 
 -- behind the opening brace of a block, with at most so many blocks one in another
 abbrev pub read_block : ℕ → List Token → ParseResult (List Statement)
@@ -325,35 +353,46 @@ read_block (suc room) ts = read_actions (read_block room) (length ts) [] ts
 abbrev pub read_further : ℕ → List Name → List Token → ParseResult (List Name)
 read_further zero found ts = None
 read_further (suc turns) found ts =
-    either_way (after_symbol s.Comma ts) (λ ts. on_read (name_at ts) (λ x. read_further turns (found ++ x ∷ []))) (on_rest (after_symbol s.CloseRound ts) (λ rest. Some (found, rest)))
+    either_way (after_symbol s.Comma ts) (λ ts. on_read (name_at ts) (λ x. read_further turns (found ++ x ∷ [])))
+    (on_rest (after_symbol s.CloseRound ts) (λ rest. Some (found, rest)))
 
 abbrev pub read_params : List Token → ParseResult (List Name)
-read_params ts = either_way (after_symbol s.CloseRound ts) (λ rest. Some ([], rest)) (on_read (name_at ts) (λ x rest. read_further (length ts) (x ∷ []) rest))
+read_params ts = either_way (after_symbol s.CloseRound ts) (λ rest. Some ([], rest))
+    (on_read (name_at ts) (λ x rest. read_further (length ts) (x ∷ []) rest))
 
 abbrev pub read_body : Name → List Name → List Token → ParseResult MethodTree
 read_body x params ts =
-    on_rest (after_symbol s.OpenBrace ts) (λ ts. on_read (read_block (length ts) ts) (λ found ts. Some (record { name = x; params = params; body = statements_of found }, ts)))
+    on_rest (after_symbol s.OpenBrace ts) (λ ts.
+    on_read (read_block (length ts) ts) (λ found ts.
+    Some (record { name = x; params = params; body = statements_of found }, ts)))
 
 abbrev pub read_method : List Token → ParseResult MethodTree
-read_method ts = on_read (name_at ts) (λ x ts. on_rest (after_symbol s.OpenRound ts) (λ ts. on_read (read_params ts) (read_body x)))
+read_method ts = on_read (name_at ts) (λ x ts.
+    on_rest (after_symbol s.OpenRound ts) (λ ts. on_read (read_params ts) (read_body x)))
 
 abbrev pub read_fields : ℕ → List Name → List Token → ParseResult (List Name)
 read_fields zero found ts = Some (found, ts)
 read_fields (suc turns) found ts =
-    either_way (after_word w.Field ts) (λ ts. on_read (name_at ts) (λ x ts. on_rest (after_symbol s.Semicolon ts) (read_fields turns (found ++ x ∷ [])))) (Some (found, ts))
+    either_way (after_word w.Field ts) (λ ts.
+    on_read (name_at ts) (λ x ts. on_rest (after_symbol s.Semicolon ts) (read_fields turns (found ++ x ∷ []))))
+    (Some (found, ts))
 
 -- up to the closing brace, which is read too
 abbrev pub read_methods : ℕ → List MethodTree → List Token → ParseResult (List MethodTree)
 read_methods zero found ts = None
 read_methods (suc turns) found ts =
-    either_way (after_symbol s.CloseBrace ts) (λ rest. Some (found, rest)) (on_read (read_method ts) (λ m. read_methods turns (found ++ m ∷ [])))
+    either_way (after_symbol s.CloseBrace ts) (λ rest. Some (found, rest))
+    (on_read (read_method ts) (λ m. read_methods turns (found ++ m ∷ [])))
 
 abbrev pub read_members : Name → List Token → ParseResult ClassTree
 read_members x ts =
-    on_read (read_fields (length ts) [] ts) (λ fields ts. on_read (read_methods (length ts) [] ts) (λ methods ts. Some (record { name = x; fields = fields; methods = methods }, ts)))
+    on_read (read_fields (length ts) [] ts) (λ fields ts.
+    on_read (read_methods (length ts) [] ts) (λ methods ts.
+    Some (record { name = x; fields = fields; methods = methods }, ts)))
 
 abbrev pub read_class : List Token → ParseResult ClassTree
-read_class ts = on_rest (after_word w.Class ts) (λ ts. on_read (class_name_at ts) (λ x ts. on_rest (after_symbol s.OpenBrace ts) (read_members x)))
+read_class ts = on_rest (after_word w.Class ts) (λ ts.
+    on_read (class_name_at ts) (λ x ts. on_rest (after_symbol s.OpenBrace ts) (read_members x)))
 
 abbrev pub read_classes : ℕ → List ClassTree → List Token → Option (List ClassTree)
 read_classes turns found [] = Some found

@@ -94,7 +94,7 @@ pub fn first_excess(classes: &[Class]) -> Option<(Bound, u64)>
     Some((Bound::Parameters, count))
 }
 
-// A count that is above its bound.
+/// A count that is above its bound.
 fn above(count: usize, most: usize) -> Option<u64>
     ensures { result ≡ too_many most count }
 {
@@ -104,7 +104,7 @@ fn above(count: usize, most: usize) -> Option<u64>
     None
 }
 
-// The first of two counts that are above a bound.
+/// The first of two counts that are above a bound.
 fn first_count(one: Option<u64>, other: Option<u64>) -> Option<u64>
     ensures { result ≡ first_found one other }
 {
@@ -213,7 +213,8 @@ fn in_expressions(expressions: &[Expr]) -> Option<u64>
 #[cycle(expressions)]
 #[tactic(auto, using(crate::proofs::Counts::by_count))]
 fn in_arguments(args: &[Expr]) -> Option<u64>
-    ensures { result ≡ first_found (too_many most_arguments (how_many (expression_trees args.now))) (all_many_arguments (expression_trees args.now)) }
+    ensures { result ≡ first_found (too_many most_arguments (how_many (expression_trees args.now)))
+        (all_many_arguments (expression_trees args.now)) }
 {
     first_count(above(args.len(), MOST_ARGUMENTS), in_expressions(args))
 }

@@ -34,7 +34,7 @@ pub fn program(alloc: Global, tokens: &[Token]) -> Result<Vec<Class>, ParseStop>
     Ok(found)
 }
 
-// Reads `class = "class" CName "{" ("field" name ";")* method* "}"`.
+/// Reads `class = "class" CName "{" ("field" name ";")* method* "}"`.
 fn class(alloc: Global, tokens: &[Token]) -> Result<(Class, &[Token]), ParseStop>
     ensures { ParsesPart class_tree result (read_class tokens.now) }
 {
@@ -74,10 +74,11 @@ fn fields(alloc: Global, tokens: &[Token]) -> Result<(Vec<Text>, &[Token]), Pars
     Ok((found, rest))
 }
 
-// methods, up to the closing brace
+/// Methods, up to the closing brace.
 #[tactic(auto, using(crate::proofs::Turns::by_turn))]
 fn methods(alloc: Global, tokens: &[Token]) -> Result<(Vec<Method>, &[Token]), ParseStop>
-    ensures { ParsesPart (λ found. map method_tree found.items) result (read_methods (length tokens.now) [] tokens.now) }
+    ensures { ParsesPart (λ found. map method_tree found.items) result
+        (read_methods (length tokens.now) [] tokens.now) }
 {
     let mut found = Vec::new(alloc);
     let mut rest = tokens;
@@ -115,7 +116,7 @@ fn body(
     Ok((method, rest))
 }
 
-// parameters, and the closing bracket
+/// Parameters, and the closing bracket.
 fn params(alloc: Global, tokens: &[Token]) -> Result<(Vec<Text>, &[Token]), ParseStop>
     ensures { ParsesPart (λ found. found.items) result (read_params tokens.now) }
 {

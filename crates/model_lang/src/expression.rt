@@ -21,7 +21,7 @@ pub fn expression(alloc: Global, tokens: &[Token]) -> Result<(Expr, &[Token]), P
     line(alloc, tokens.len(), Line::Or, tokens)
 }
 
-// An expression of this line or a tighter one.
+/// An expression of this line or a tighter one.
 #[cycle(line)]
 #[tactic(auto, using(crate::proofs::Turns::by_line))]
 fn line(
@@ -44,7 +44,7 @@ fn line(
     Ok((left, rest))
 }
 
-// A side of an operator of this line.
+/// A side of an operator of this line.
 #[cycle(line)]
 fn inner(
     alloc: Global,
@@ -52,7 +52,8 @@ fn inner(
     line: Line,
     tokens: &[Token],
 ) -> Result<(Expr, &[Token]), ParseStop>
-    ensures { ParsesPart expression_tree result (read_operator_line (read_unary room) (line_number line - 1) tokens.now) }
+    ensures { ParsesPart expression_tree result
+        (read_operator_line (read_unary room) (line_number line - 1) tokens.now) }
 {
     match line.tighter() {
         Some(tighter) => crate::expression::line(alloc, room, tighter, tokens),
@@ -96,7 +97,8 @@ fn new_future(
     name: &Text,
     args: Vec<Expr>,
 ) -> Result<Expr, WantOfMemory>
-    ensures { Makes result (future (expression_tree object) (expression_tree delay) name.now (expressions_of (map expression_tree args.items))) }
+    ensures { Makes result (future (expression_tree object) (expression_tree delay) name.now
+        (expressions_of (map expression_tree args.items))) }
 {
     Ok(Expr::Future {
         object: Box::new(alloc, object)?,
@@ -115,7 +117,7 @@ fn new_create(alloc: Global, class: &Text, options: Expr) -> Result<Expr, WantOf
     })
 }
 
-// unary = ("-" | "!") unary | post
+/// Reads `unary = ("-" | "!") unary | post`.
 #[cycle(line)]
 #[tactic(auto, using(crate::proofs::Turns::by_room))]
 fn unary(alloc: Global, room: usize, tokens: &[Token]) -> Result<(Expr, &[Token]), ParseStop>
@@ -131,7 +133,7 @@ fn unary(alloc: Global, room: usize, tokens: &[Token]) -> Result<(Expr, &[Token]
     Ok((new_unary(alloc, op, of)?, rest))
 }
 
-// A prim, and the calls and futures behind it.
+/// A prim, and the calls and futures behind it.
 #[cycle(line)]
 #[tactic(auto, using(crate::proofs::Turns::by_turn))]
 fn post(alloc: Global, room: usize, tokens: &[Token]) -> Result<(Expr, &[Token]), ParseStop>
@@ -147,7 +149,7 @@ fn post(alloc: Global, room: usize, tokens: &[Token]) -> Result<(Expr, &[Token])
     Ok((object, rest))
 }
 
-// Behind the `.` of a call or a future.
+/// Behind the `.` of a call or a future.
 #[cycle(line)]
 fn suffix(
     alloc: Global,
@@ -155,7 +157,8 @@ fn suffix(
     object: Expr,
     tokens: &[Token],
 ) -> Result<(Expr, &[Token]), ParseStop>
-    ensures { ParsesPart expression_tree result (read_suffix (read_operator_line (read_unary room) 6) (expression_tree object) tokens.now) }
+    ensures { ParsesPart expression_tree result
+        (read_suffix (read_operator_line (read_unary room) 6) (expression_tree object) tokens.now) }
 {
     match word(tokens, Word::Future) {
         Some(rest) => future(alloc, room, object, rest),
@@ -171,14 +174,15 @@ fn call(
     object: Expr,
     tokens: &[Token],
 ) -> Result<(Expr, &[Token]), ParseStop>
-    ensures { ParsesPart expression_tree result (read_call (read_operator_line (read_unary room) 6) (expression_tree object) tokens.now) }
+    ensures { ParsesPart expression_tree result
+        (read_call (read_operator_line (read_unary room) 6) (expression_tree object) tokens.now) }
 {
     let (name, rest) = call_head(tokens)?;
     let (args, rest) = arguments(alloc, room, Symbol::CloseRound, rest)?;
     Ok((new_call(alloc, object, name, args)?, rest))
 }
 
-// Behind `.future`.
+/// Behind `.future`.
 #[cycle(line)]
 #[tactic(auto, using(crate::proofs::Heads::by_head))]
 fn future(
@@ -187,7 +191,8 @@ fn future(
     object: Expr,
     tokens: &[Token],
 ) -> Result<(Expr, &[Token]), ParseStop>
-    ensures { ParsesPart expression_tree result (read_future (read_operator_line (read_unary room) 6) (expression_tree object) tokens.now) }
+    ensures { ParsesPart expression_tree result
+        (read_future (read_operator_line (read_unary room) 6) (expression_tree object) tokens.now) }
 {
     let rest = expect_symbol(tokens, Symbol::OpenRound)?;
     let (delay, rest) = line(alloc, room, Line::Or, rest)?;
@@ -210,7 +215,7 @@ fn prim(alloc: Global, room: usize, tokens: &[Token]) -> Result<(Expr, &[Token])
     }
 }
 
-// Behind a name: the arguments of a builtin, or nothing.
+/// Behind a name: the arguments of a builtin, or nothing.
 #[cycle(line)]
 fn builtin_or_local(
     alloc: Global,
@@ -227,7 +232,7 @@ fn builtin_or_local(
     Ok((Expr::Builtin { name, args }, rest))
 }
 
-// Behind a word.
+/// Behind a word.
 #[cycle(line)]
 fn word_prim(
     alloc: Global,
@@ -247,7 +252,7 @@ fn word_prim(
     }
 }
 
-// Behind `this`.
+/// Behind `this`.
 fn this(tokens: &[Token]) -> Result<(Expr, &[Token]), ParseStop>
     ensures { ParsesPart expression_tree result (read_this tokens.now) }
 {
@@ -262,7 +267,7 @@ fn this(tokens: &[Token]) -> Result<(Expr, &[Token]), ParseStop>
     ))
 }
 
-// `.` and a name that no `(` follows.
+/// `.` and a name that no `(` follows.
 fn field_at(tokens: &[Token]) -> Option<(&Text, &[Token])>
     ensures { FindsName result (read_field tokens.now) }
 {
@@ -285,7 +290,7 @@ fn create(alloc: Global, room: usize, tokens: &[Token]) -> Result<(Expr, &[Token
     Ok((new_create(alloc, class, options)?, rest))
 }
 
-// Behind a symbol that opens an expression in brackets or a list.
+/// Behind a symbol that opens an expression in brackets or a list.
 #[cycle(line)]
 fn bracket_prim(
     alloc: Global,
@@ -293,7 +298,8 @@ fn bracket_prim(
     bracket: Symbol,
     tokens: &[Token],
 ) -> Result<(Expr, &[Token]), ParseStop>
-    ensures { ParsesPart expression_tree result (read_opened (read_operator_line (read_unary room) 6) bracket tokens.now) }
+    ensures { ParsesPart expression_tree result
+        (read_opened (read_operator_line (read_unary room) 6) bracket tokens.now) }
 {
     match bracket {
         Symbol::OpenRound => {
@@ -309,7 +315,7 @@ fn bracket_prim(
     }
 }
 
-// args = [expr ("," expr)*]?, and the closing bracket
+/// Reads `args = [expr ("," expr)*]?`, and the closing bracket.
 #[cycle(line)]
 fn arguments(
     alloc: Global,
@@ -317,7 +323,8 @@ fn arguments(
     close: Symbol,
     tokens: &[Token],
 ) -> Result<(Vec<Expr>, &[Token]), ParseStop>
-    ensures { ParsesPart (λ args. map expression_tree args.items) result (read_args close (read_operator_line (read_unary room) 6) tokens.now) }
+    ensures { ParsesPart (λ args. map expression_tree args.items) result
+        (read_args close (read_operator_line (read_unary room) 6) tokens.now) }
 {
     let mut found = Vec::new(alloc);
     if let Some(rest) = symbol(tokens, close) {
@@ -338,7 +345,8 @@ fn further(
     mut found: Vec<Expr>,
     tokens: &[Token],
 ) -> Result<(Vec<Expr>, &[Token]), ParseStop>
-    ensures { ParsesPart (λ args. map expression_tree args.items) result (read_more close (read_operator_line (read_unary room) 6) turns (map expression_tree found.items) tokens.now) }
+    ensures { ParsesPart (λ args. map expression_tree args.items) result
+        (read_more close (read_operator_line (read_unary room) 6) turns (map expression_tree found.items) tokens.now) }
 {
     let mut rest = tokens;
     for _turn in 0..turns {

@@ -13,7 +13,7 @@ use model_tokens::{Token, TokenFault, one_division, place_of_fault, place_of_tok
 use model_tree::{Bound, Class, Program};
 use std::alloc::Global;
 
-// The first count of brackets or operators that is above the bound.
+/// The first count of brackets or operators that is above the bound.
 const ONE_TOO_MANY: u64 = MOST_NESTED as u64 + 1;
 
 /// Reads the program that a text spells.
@@ -44,11 +44,11 @@ pub fn parse(alloc: Global, text: &[u8]) -> Result<Program, LangFault>
         Err(TokenFault::WantOfMemory) => return Err(LangFault::WantOfMemory),
     };
     // If these tokens are refused, so is the text, which is divided in no other way.
-    one_division();
+    one_division(); // for the prover
     Ok(Program::of_classes(whole(alloc, text, tokens.as_slice())?))
 }
 
-// The classes that all the tokens of this text spell.
+/// The classes that all the tokens of this text spell.
 fn whole(alloc: Global, text: &[u8], tokens: &[Token]) -> Result<Vec<Class>, LangFault>
     ensures reading { ParsesTokens result tokens.now }
     ensures place { IsPlaced result (length text.now) }
@@ -82,7 +82,8 @@ fn whole(alloc: Global, text: &[u8], tokens: &[Token]) -> Result<Vec<Class>, Lan
 
 /// The grammar is unambiguous: tokens stand for one program, or for none.
 pub fn one_derivation()
-    ensures { (tokens : List Held) (tree other : ProgramTree) → Derives tokens tree → Derives tokens other → tree ≡ other }
+    ensures { (tokens : List Held) (tree other : ProgramTree) → Derives tokens tree → Derives tokens other
+        → tree ≡ other }
 {}
 
 /// A text is read as one tree, or as none.
@@ -94,7 +95,8 @@ pub fn one_tree()
 
 /// Of each text one thing comes: a program, none, or a bound that it passes.
 pub fn one_reading()
-    ensures one { (text : List ℕ) (reading other : Reading) → IsReading text reading → IsReading text other → reading ≡ other }
+    ensures one { (text : List ℕ) (reading other : Reading) → IsReading text reading → IsReading text other
+        → reading ≡ other }
     ensures some { (text : List ℕ) → ¬ ((reading : Reading) → ¬ IsReading text reading) }
 {
     one_division();

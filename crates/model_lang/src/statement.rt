@@ -36,7 +36,8 @@ fn statements(
     room: usize,
     tokens: &[Token],
 ) -> Result<(Vec<Stmt>, &[Token]), ParseStop>
-    ensures { ParsesPart (λ found. map statement_tree found.items) result (read_actions (read_block room) (length tokens.now) [] tokens.now) }
+    ensures { ParsesPart (λ found. map statement_tree found.items) result
+        (read_actions (read_block room) (length tokens.now) [] tokens.now) }
 {
     let mut found = Vec::new(alloc);
     let mut rest = tokens;
@@ -71,7 +72,7 @@ fn statement(alloc: Global, room: usize, tokens: &[Token]) -> Result<(Stmt, &[To
     simple(alloc, tokens)
 }
 
-// Behind `if`.
+/// Behind `if`.
 #[cycle(block)]
 fn choice(alloc: Global, room: usize, tokens: &[Token]) -> Result<(Stmt, &[Token]), ParseStop>
     ensures { ParsesPart statement_tree result (read_if (read_block room) tokens.now) }
@@ -91,7 +92,7 @@ fn choice(alloc: Global, room: usize, tokens: &[Token]) -> Result<(Stmt, &[Token
     }
 }
 
-// Behind `else`.
+/// Behind `else`.
 #[cycle(block)]
 #[tactic(auto, using(crate::proofs::Elses::else_tree))]
 fn otherwise(
@@ -101,7 +102,8 @@ fn otherwise(
     yes: Vec<Stmt>,
     tokens: &[Token],
 ) -> Result<(Stmt, &[Token]), ParseStop>
-    ensures { ParsesPart statement_tree result (read_else (read_block room) (expression_tree test) (map statement_tree yes.items) tokens.now) }
+    ensures { ParsesPart statement_tree result
+        (read_else (read_block room) (expression_tree test) (map statement_tree yes.items) tokens.now) }
 {
     let rest = expect_symbol(tokens, Symbol::OpenBrace)?;
     let (no, rest) = block(alloc, room, rest)?;
@@ -115,7 +117,7 @@ fn otherwise(
     ))
 }
 
-// Behind `while`.
+/// Behind `while`.
 #[cycle(block)]
 fn while_statement(
     alloc: Global,
@@ -129,7 +131,7 @@ fn while_statement(
     Ok((Stmt::While { test, body }, rest))
 }
 
-// An expression in round brackets, and the opening brace behind it.
+/// An expression in round brackets, and the opening brace behind it.
 fn condition(alloc: Global, tokens: &[Token]) -> Result<(Expr, &[Token]), ParseStop>
     ensures { ParsesPart expression_tree result (read_test tokens.now) }
 {
@@ -140,7 +142,7 @@ fn condition(alloc: Global, tokens: &[Token]) -> Result<(Expr, &[Token]), ParseS
     Ok((test, rest))
 }
 
-// Behind `let`.
+/// Behind `let`.
 fn declaration(alloc: Global, tokens: &[Token]) -> Result<(Stmt, &[Token]), ParseStop>
     ensures { ParsesPart statement_tree result (read_let tokens.now) }
 {
@@ -150,7 +152,7 @@ fn declaration(alloc: Global, tokens: &[Token]) -> Result<(Stmt, &[Token]), Pars
     Ok((Stmt::Let { name, value }, rest))
 }
 
-// A statement that begins with no word of its own.
+/// A statement that begins with no word of its own.
 fn simple(alloc: Global, tokens: &[Token]) -> Result<(Stmt, &[Token]), ParseStop>
     ensures { ParsesPart statement_tree result (read_simple tokens.now) }
 {
@@ -168,7 +170,7 @@ fn simple(alloc: Global, tokens: &[Token]) -> Result<(Stmt, &[Token]), ParseStop
     Ok((Stmt::Do { value }, rest))
 }
 
-// A name and a `=`.
+/// A name and a `=`.
 fn assigned_at(tokens: &[Token]) -> Option<(&Text, &[Token])>
     ensures { FindsName result (read_assigned tokens.now) }
 {
@@ -177,7 +179,7 @@ fn assigned_at(tokens: &[Token]) -> Option<(&Text, &[Token])>
     Some((name, rest))
 }
 
-// `this`, `.`, a name and a `=`.
+/// `this`, `.`, a name and a `=`.
 fn set_at(tokens: &[Token]) -> Option<(&Text, &[Token])>
     ensures { FindsName result (read_set tokens.now) }
 {
@@ -186,7 +188,7 @@ fn set_at(tokens: &[Token]) -> Option<(&Text, &[Token])>
     assigned_at(rest)
 }
 
-// An expression and the `;` behind it.
+/// An expression and the `;` behind it.
 fn value_end(alloc: Global, tokens: &[Token]) -> Result<(Expr, &[Token]), ParseStop>
     ensures { ParsesPart expression_tree result (read_ended tokens.now) }
 {

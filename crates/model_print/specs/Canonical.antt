@@ -22,7 +22,8 @@ abbrev mutual
   phrase_of (field x) = a_field x
   phrase_of (list items) = a_list (phrases_of items)
   phrase_of (unary o a) = a_unary o (at_line 1 (phrase_of a))
-  phrase_of (binary o a b) = a_binary o (at_line (left_of o) (phrase_of a)) (at_line (operator_line o - 1) (phrase_of b))
+  phrase_of (binary o a b) = a_binary o (at_line (left_of o) (phrase_of a))
+      (at_line (operator_line o - 1) (phrase_of b))
   phrase_of (builtin x args) = a_builtin x (phrases_of args)
   phrase_of (call object x args) = a_call (at_line 0 (phrase_of object)) x (phrases_of args)
   phrase_of (future object delay x args) = a_future (at_line 0 (phrase_of object)) (phrase_of delay) x (phrases_of args)

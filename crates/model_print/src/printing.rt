@@ -37,7 +37,8 @@ pub fn print(alloc: Global, program: &Program) -> Result<Blob, WantOfMemory>
 
 /// `parse` of the canonical text of a program gives the program again, where memory lasts.
 pub fn parses_again()
-    ensures { (tree : ProgramTree) (read : Result (List Held) LangFault) → IsProgram tree → Parses read (canonical_text tree) → GivesAgain tree read }
+    ensures { (tree : ProgramTree) (read : Result (List Held) LangFault) → IsProgram tree
+        → Parses read (canonical_text tree) → GivesAgain tree read }
 {
     one_reading();
 }
@@ -331,7 +332,9 @@ impl Printer {
     /// An expression, in brackets where none of its line may stand.
     #[cycle(print)]
     fn at_level(&mut self, wanted: Level, expr: &Expr) -> Result<(), WantOfMemory>
-        ensures { OnOk result (self.new ≡ with_tokens self.old (phrase_spelling (at_line (level_number wanted) (phrase_of (expression_tree expr.now))))) }
+        ensures { OnOk result (self.new
+            ≡ with_tokens self.old (phrase_spelling
+            (at_line (level_number wanted) (phrase_of (expression_tree expr.now))))) }
     {
         if level_of(expr).number() <= wanted.number() {
             self.phrase(expr)
@@ -343,7 +346,8 @@ impl Printer {
     /// An expression in round brackets.
     #[cycle(print)]
     fn brackets(&mut self, expr: &Expr) -> Result<(), WantOfMemory>
-        ensures { OnOk result (self.new ≡ with_tokens self.old (in_round (phrase_spelling (phrase_of (expression_tree expr.now))))) }
+        ensures { OnOk result (self.new
+            ≡ with_tokens self.old (in_round (phrase_spelling (phrase_of (expression_tree expr.now))))) }
     {
         self.symbol(Symbol::OpenRound)?;
         self.phrase(expr)?;
@@ -352,7 +356,8 @@ impl Printer {
 
     #[cycle(print)]
     fn phrase(&mut self, expr: &Expr) -> Result<(), WantOfMemory>
-        ensures { OnOk result (self.new ≡ with_tokens self.old (phrase_spelling (phrase_of (expression_tree expr.now)))) }
+        ensures { OnOk result (self.new
+            ≡ with_tokens self.old (phrase_spelling (phrase_of (expression_tree expr.now)))) }
     {
         match expr {
             Expr::Nil => self.word(Word::Nil),
@@ -399,7 +404,8 @@ impl Printer {
 
     /// `this.name`
     fn field(&mut self, name: &Text) -> Result<(), WantOfMemory>
-        ensures { OnOk result (self.new ≡ with_tokens self.old (token.Word word.This ∷ token.Symbol symbol.Dot ∷ token.Name name.now ∷ [])) }
+        ensures { OnOk result (self.new
+            ≡ with_tokens self.old (token.Word word.This ∷ token.Symbol symbol.Dot ∷ token.Name name.now ∷ [])) }
     {
         self.word(Word::This)?;
         self.symbol(Symbol::Dot)?;
@@ -408,7 +414,9 @@ impl Printer {
 
     /// `create(class,`
     fn create_opening(&mut self, class: &Text) -> Result<(), WantOfMemory>
-        ensures { OnOk result (self.new ≡ with_tokens self.old (token.Word word.Create ∷ token.Symbol symbol.OpenRound ∷ token.ClassName class.now ∷ token.Symbol symbol.Comma ∷ [])) }
+        ensures { OnOk result (self.new
+            ≡ with_tokens self.old (token.Word word.Create ∷ token.Symbol symbol.OpenRound ∷ token.ClassName class.now
+            ∷ token.Symbol symbol.Comma ∷ [])) }
     {
         self.word(Word::Create)?;
         self.symbol(Symbol::OpenRound)?;
@@ -419,7 +427,9 @@ impl Printer {
     /// `.future(delay).`
     #[cycle(print)]
     fn delay(&mut self, delay: &Expr) -> Result<(), WantOfMemory>
-        ensures { OnOk result (self.new ≡ with_tokens self.old (token.Symbol symbol.Dot ∷ token.Word word.Future ∷ (in_round (phrase_spelling (phrase_of (expression_tree delay.now))) ++ token.Symbol symbol.Dot ∷ []))) }
+        ensures { OnOk result (self.new
+            ≡ with_tokens self.old (token.Symbol symbol.Dot ∷ token.Word word.Future
+            ∷ (in_round (phrase_spelling (phrase_of (expression_tree delay.now))) ++ token.Symbol symbol.Dot ∷ []))) }
     {
         self.symbol(Symbol::Dot)?;
         self.word(Word::Future)?;
@@ -430,7 +440,9 @@ impl Printer {
     /// `name(args)`
     #[cycle(print)]
     fn call(&mut self, name: &Text, args: &[Expr]) -> Result<(), WantOfMemory>
-        ensures { OnOk result (self.new ≡ with_tokens self.old (token.Name name.now ∷ in_round (args_spelling (phrases_of (expression_trees args.now))))) }
+        ensures { OnOk result (self.new
+            ≡ with_tokens self.old (token.Name name.now
+            ∷ in_round (args_spelling (phrases_of (expression_trees args.now))))) }
     {
         self.name(name)?;
         self.symbol(Symbol::OpenRound)?;
@@ -441,7 +453,8 @@ impl Printer {
     /// `[items]`
     #[cycle(print)]
     fn list(&mut self, items: &[Expr]) -> Result<(), WantOfMemory>
-        ensures { OnOk result (self.new ≡ with_tokens self.old (in_square (args_spelling (phrases_of (expression_trees items.now))))) }
+        ensures { OnOk result (self.new
+            ≡ with_tokens self.old (in_square (args_spelling (phrases_of (expression_trees items.now))))) }
     {
         self.symbol(Symbol::OpenSquare)?;
         self.phrases(items)?;
@@ -451,7 +464,8 @@ impl Printer {
     /// Expressions with commas between them.
     #[cycle(print)]
     fn phrases(&mut self, exprs: &[Expr]) -> Result<(), WantOfMemory>
-        ensures { OnOk result (self.new ≡ with_tokens self.old (args_spelling (phrases_of (expression_trees exprs.now)))) }
+        ensures { OnOk result (self.new
+            ≡ with_tokens self.old (args_spelling (phrases_of (expression_trees exprs.now)))) }
     {
         let Some((first, further)) = exprs.split_first() else {
             return Ok(());
@@ -476,7 +490,9 @@ impl Printer {
 
     /// `name=value;`
     fn assignment(&mut self, name: &Text, value: &Expr) -> Result<(), WantOfMemory>
-        ensures { OnOk result (self.new ≡ with_tokens self.old (token.Name name.now ∷ token.Symbol symbol.Assign ∷ end_spelling (phrase_of (expression_tree value.now)))) }
+        ensures { OnOk result (self.new
+            ≡ with_tokens self.old (token.Name name.now ∷ token.Symbol symbol.Assign
+            ∷ end_spelling (phrase_of (expression_tree value.now)))) }
     {
         self.name(name)?;
         self.symbol(Symbol::Assign)?;
@@ -485,7 +501,9 @@ impl Printer {
 
     /// `word(test)`
     fn test_head(&mut self, word: Word, test: &Expr) -> Result<(), WantOfMemory>
-        ensures { OnOk result (self.new ≡ with_tokens self.old (token.Word word ∷ in_round (phrase_spelling (phrase_of (expression_tree test.now))))) }
+        ensures { OnOk result (self.new
+            ≡ with_tokens self.old (token.Word word
+            ∷ in_round (phrase_spelling (phrase_of (expression_tree test.now))))) }
     {
         self.word(word)?;
         self.brackets(test)
@@ -493,7 +511,8 @@ impl Printer {
 
     #[cycle(statements)]
     fn statement(&mut self, statement: &Stmt) -> Result<(), WantOfMemory>
-        ensures { OnOk result (self.new ≡ with_tokens self.old (action_spelling (action_of (statement_tree statement.now)))) }
+        ensures { OnOk result (self.new
+            ≡ with_tokens self.old (action_spelling (action_of (statement_tree statement.now)))) }
     {
         match statement {
             Stmt::Let { name, value } => {
@@ -539,7 +558,8 @@ impl Printer {
     /// Statements in braces.
     #[cycle(statements)]
     fn block(&mut self, statements: &[Stmt]) -> Result<(), WantOfMemory>
-        ensures { OnOk result (self.new ≡ with_tokens self.old (in_braces (block_spelling (block_of (statement_trees statements.now))))) }
+        ensures { OnOk result (self.new
+            ≡ with_tokens self.old (in_braces (block_spelling (block_of (statement_trees statements.now))))) }
     {
         self.symbol(Symbol::OpenBrace)?;
         self.statements(statements)?;
@@ -548,7 +568,8 @@ impl Printer {
 
     #[cycle(statements)]
     fn statements(&mut self, statements: &[Stmt]) -> Result<(), WantOfMemory>
-        ensures { OnOk result (self.new ≡ with_tokens self.old (block_spelling (block_of (statement_trees statements.now)))) }
+        ensures { OnOk result (self.new
+            ≡ with_tokens self.old (block_spelling (block_of (statement_trees statements.now)))) }
     {
         for statement in statements {
             self.statement(statement)?;
@@ -580,7 +601,8 @@ impl Printer {
     }
 
     fn method(&mut self, method: &Method) -> Result<(), WantOfMemory>
-        ensures { OnOk result (self.new ≡ with_tokens self.old (method_spelling (method_form (method_tree method.now)))) }
+        ensures { OnOk result (self.new
+            ≡ with_tokens self.old (method_spelling (method_form (method_tree method.now)))) }
     {
         self.name(&method.name)?;
         self.symbol(Symbol::OpenRound)?;
@@ -590,7 +612,8 @@ impl Printer {
     }
 
     fn methods(&mut self, methods: &[Method]) -> Result<(), WantOfMemory>
-        ensures { OnOk result (self.new ≡ with_tokens self.old (methods_spelling (map method_form (map method_tree methods.now)))) }
+        ensures { OnOk result (self.new
+            ≡ with_tokens self.old (methods_spelling (map method_form (map method_tree methods.now)))) }
     {
         for method in methods {
             self.method(method)?;

@@ -56,7 +56,10 @@ arguments_of builtin.Compare = 2
 
 abbrev pub builtins : List Builtin
 builtins =
-    builtin.Now ∷ builtin.Random ∷ builtin.ViewCount ∷ builtin.Views ∷ builtin.SessionId ∷ builtin.Known ∷ builtin.BeKnown ∷ builtin.Exists ∷ builtin.Destroy ∷ builtin.Publish ∷ builtin.Subscribe ∷ builtin.Unsubscribe ∷ builtin.Cancel ∷ builtin.Persist ∷ builtin.Length ∷ builtin.At ∷ builtin.Put ∷ builtin.Push ∷ builtin.Slice ∷ builtin.Concat ∷ builtin.Text ∷ builtin.Number ∷ builtin.Compare ∷ []
+    builtin.Now ∷ builtin.Random ∷ builtin.ViewCount ∷ builtin.Views ∷ builtin.SessionId ∷ builtin.Known
+    ∷ builtin.BeKnown ∷ builtin.Exists ∷ builtin.Destroy ∷ builtin.Publish ∷ builtin.Subscribe ∷ builtin.Unsubscribe
+    ∷ builtin.Cancel ∷ builtin.Persist ∷ builtin.Length ∷ builtin.At ∷ builtin.Put ∷ builtin.Push ∷ builtin.Slice
+    ∷ builtin.Concat ∷ builtin.Text ∷ builtin.Number ∷ builtin.Compare ∷ []
 
 -- the builtin of that name, if there is one
 abbrev pub builtin_named : Name → Option Builtin

@@ -58,32 +58,44 @@ abbrev mutual
   faults_of_expression classes fields scope (field x) = faults_of_field fields x
   faults_of_expression classes fields scope (list items) = faults_of_expressions classes fields scope items
   faults_of_expression classes fields scope (unary op e) = faults_of_expression classes fields scope e
-  faults_of_expression classes fields scope (binary op a b) = faults_of_expression classes fields scope a ++ faults_of_expression classes fields scope b
-  faults_of_expression classes fields scope (builtin x args) = faults_of_builtin x (how_many args) ++ faults_of_expressions classes fields scope args
-  faults_of_expression classes fields scope (call object x args) = faults_of_expression classes fields scope object ++ faults_of_expressions classes fields scope args
+  faults_of_expression classes fields scope (binary op a b) =
+      faults_of_expression classes fields scope a ++ faults_of_expression classes fields scope b
+  faults_of_expression classes fields scope (builtin x args) =
+      faults_of_builtin x (how_many args) ++ faults_of_expressions classes fields scope args
+  faults_of_expression classes fields scope (call object x args) =
+      faults_of_expression classes fields scope object ++ faults_of_expressions classes fields scope args
   faults_of_expression classes fields scope (future object delay x args) =
-      faults_of_expression classes fields scope object ++ faults_of_expression classes fields scope delay ++ faults_of_expressions classes fields scope args
-  faults_of_expression classes fields scope (create x options) = faults_of_creation classes x ++ faults_of_expression classes fields scope options
+      faults_of_expression classes fields scope object ++ faults_of_expression classes fields scope delay
+      ++ faults_of_expressions classes fields scope args
+  faults_of_expression classes fields scope (create x options) =
+      faults_of_creation classes x ++ faults_of_expression classes fields scope options
 
   pub faults_of_expressions : List Name → List Name → List Name → Expressions → List CheckFault
   faults_of_expressions classes fields scope no_expressions = []
-  faults_of_expressions classes fields scope (expression e es) = faults_of_expression classes fields scope e ++ faults_of_expressions classes fields scope es
+  faults_of_expressions classes fields scope (expression e es) =
+      faults_of_expression classes fields scope e ++ faults_of_expressions classes fields scope es
 
 -- the name of a `let` is not in scope in its own value
 abbrev mutual
   pub faults_of_statement : List Name → List Name → List Name → Statement → List CheckFault
-  faults_of_statement classes fields scope (declare x e) = faults_of_name scope x ++ faults_of_expression classes fields scope e
-  faults_of_statement classes fields scope (assign x e) = faults_of_local scope x ++ faults_of_expression classes fields scope e
-  faults_of_statement classes fields scope (set_field x e) = faults_of_field fields x ++ faults_of_expression classes fields scope e
+  faults_of_statement classes fields scope (declare x e) =
+      faults_of_name scope x ++ faults_of_expression classes fields scope e
+  faults_of_statement classes fields scope (assign x e) =
+      faults_of_local scope x ++ faults_of_expression classes fields scope e
+  faults_of_statement classes fields scope (set_field x e) =
+      faults_of_field fields x ++ faults_of_expression classes fields scope e
   faults_of_statement classes fields scope (when test block other) =
-      faults_of_expression classes fields scope test ++ faults_of_statements classes fields scope block ++ faults_of_else classes fields scope other
-  faults_of_statement classes fields scope (while test block) = faults_of_expression classes fields scope test ++ faults_of_statements classes fields scope block
+      faults_of_expression classes fields scope test ++ faults_of_statements classes fields scope block
+      ++ faults_of_else classes fields scope other
+  faults_of_statement classes fields scope (while test block) =
+      faults_of_expression classes fields scope test ++ faults_of_statements classes fields scope block
   faults_of_statement classes fields scope (give e) = faults_of_expression classes fields scope e
   faults_of_statement classes fields scope (do_ e) = faults_of_expression classes fields scope e
 
   pub faults_of_statements : List Name → List Name → List Name → Statements → List CheckFault
   faults_of_statements classes fields scope no_statements = []
-  faults_of_statements classes fields scope (statement s ss) = faults_of_statement classes fields scope s ++ faults_of_statements classes fields (scope_behind scope s) ss
+  faults_of_statements classes fields scope (statement s ss) =
+      faults_of_statement classes fields scope s ++ faults_of_statements classes fields (scope_behind scope s) ss
 
   pub faults_of_else : List Name → List Name → List Name → Otherwise → List CheckFault
   faults_of_else classes fields scope no_else = []
@@ -95,7 +107,9 @@ faults_of_method classes fields m = faults_of_names [] m.params ++ faults_of_sta
 -- of methods that come after methods of these names
 abbrev pub faults_of_methods : List Name → List Name → List Name → List MethodTree → List CheckFault
 faults_of_methods classes fields seen [] = []
-faults_of_methods classes fields seen (m ∷ ms) = faults_of_name seen m.name ++ faults_of_method classes fields m ++ faults_of_methods classes fields (seen ++ m.name ∷ []) ms
+faults_of_methods classes fields seen (m ∷ ms) =
+    faults_of_name seen m.name ++ faults_of_method classes fields m
+    ++ faults_of_methods classes fields (seen ++ m.name ∷ []) ms
 
 abbrev pub faults_of_class : List Name → ClassTree → List CheckFault
 faults_of_class classes c = faults_of_names [] c.fields ++ faults_of_methods classes c.fields [] c.methods
@@ -103,14 +117,16 @@ faults_of_class classes c = faults_of_names [] c.fields ++ faults_of_methods cla
 -- of classes that come after classes of these names
 abbrev pub faults_of_classes : List Name → List Name → ProgramTree → List CheckFault
 faults_of_classes classes seen [] = []
-faults_of_classes classes seen (c ∷ cs) = faults_of_name seen c.name ++ faults_of_class classes c ++ faults_of_classes classes (seen ++ c.name ∷ []) cs
+faults_of_classes classes seen (c ∷ cs) =
+    faults_of_name seen c.name ++ faults_of_class classes c ++ faults_of_classes classes (seen ++ c.name ∷ []) cs
 
 abbrev pub class_names : ProgramTree → List Name
 class_names tree = map (λ c. c.name) tree
 
 -- that no class is named Root stands at the end of the text
 abbrev pub faults_of_program : ProgramTree → List CheckFault
-faults_of_program tree = faults_of_classes (class_names tree) [] tree ++ missing_from (class_names tree) root_name NoRoot
+faults_of_program tree = faults_of_classes (class_names tree) [] tree
+    ++ missing_from (class_names tree) root_name NoRoot
 
 abbrev pub first_of : List CheckFault → Option CheckFault
 first_of [] = None

@@ -16,7 +16,8 @@ pub record CheckedView : Type 0 where
 
 abbrev pub coded_checked : Coded (List Class) → Coded CheckedView
 coded_checked classes =
-    code_by (List Class × PlainValue) (coded× classes coded_plain) (λ c. (c.classes, c.persisted)) (λ p. record { classes = p.0; persisted = p.1 }) (λ _. refl)
+    code_by (List Class × PlainValue) (coded× classes coded_plain) (λ c. (c.classes, c.persisted)) (λ p.
+    record { classes = p.0; persisted = p.1 }) (λ _. refl)
 
 abbrev pub checked_tree : CheckedView → ProgramTree
 checked_tree checked = program_tree checked.classes

@@ -37,4 +37,5 @@ pub record IsChecked (tree : ProgramTree) (root : ℕ) (solved : List (List Solv
 abbrev pub FindsMethod : Option (Bor Solved) → ProgramTree → ℕ → Name → Type 0
 FindsMethod None tree n x = method_of tree n x ≡ None
 FindsMethod (Some s) tree n x =
-    (c : ClassTree) × (m : MethodTree) × (slice_get tree n ≡ Some c) × (method_of tree n x ≡ Some m) × ResolvesMethod (class_names tree) c.fields m (solved_method s.now)
+    (c : ClassTree) × (m : MethodTree) × (slice_get tree n ≡ Some c) × (method_of tree n x ≡ Some m)
+    × ResolvesMethod (class_names tree) c.fields m (solved_method s.now)

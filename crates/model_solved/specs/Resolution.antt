@@ -24,28 +24,39 @@ abbrev mutual
   Resolves classes fields scope (field x) (solved.field slot) = IsPlace fields x slot
   Resolves classes fields scope (list items) (solved.list ss) = ResolvesAll classes fields scope items ss
   Resolves classes fields scope (unary op e) (solved.unary o s) = (op ≡ o) × Resolves classes fields scope e s
-  Resolves classes fields scope (binary op a b) (solved.binary o p q) = (op ≡ o) × Resolves classes fields scope a p × Resolves classes fields scope b q
-  Resolves classes fields scope (builtin x args) (solved.builtin f ss) = (builtin_named x ≡ Some f) × ResolvesAll classes fields scope args ss
-  Resolves classes fields scope (call object x args) (solved.call o y ss) = Resolves classes fields scope object o × (x ≡ y) × ResolvesAll classes fields scope args ss
+  Resolves classes fields scope (binary op a b) (solved.binary o p q) =
+      (op ≡ o) × Resolves classes fields scope a p × Resolves classes fields scope b q
+  Resolves classes fields scope (builtin x args) (solved.builtin f ss) =
+      (builtin_named x ≡ Some f) × ResolvesAll classes fields scope args ss
+  Resolves classes fields scope (call object x args) (solved.call o y ss) =
+      Resolves classes fields scope object o × (x ≡ y) × ResolvesAll classes fields scope args ss
   Resolves classes fields scope (future object delay x args) (solved.future o d y ss) =
-      Resolves classes fields scope object o × Resolves classes fields scope delay d × (x ≡ y) × ResolvesAll classes fields scope args ss
-  Resolves classes fields scope (create x options) (solved.create n s) = IsPlace classes x n × Resolves classes fields scope options s
+      Resolves classes fields scope object o × Resolves classes fields scope delay d × (x ≡ y)
+      × ResolvesAll classes fields scope args ss
+  Resolves classes fields scope (create x options) (solved.create n s) =
+      IsPlace classes x n × Resolves classes fields scope options s
   Resolves classes fields scope _ _ = ⊥
 
   pub ResolvesAll : List Name → List Name → List Name → Expressions → SolvedExpressions → Type 0
   ResolvesAll classes fields scope no_expressions solved.no_expressions = Unit {0}
-  ResolvesAll classes fields scope (expression e es) (solved.expression s ss) = Resolves classes fields scope e s × ResolvesAll classes fields scope es ss
+  ResolvesAll classes fields scope (expression e es) (solved.expression s ss) =
+      Resolves classes fields scope e s × ResolvesAll classes fields scope es ss
   ResolvesAll classes fields scope _ _ = ⊥
 
 -- a `let` has the slot behind those of the names in scope
 abbrev mutual
   pub ResolvesStatement : List Name → List Name → List Name → Statement → SolvedStatement → Type 0
-  ResolvesStatement classes fields scope (declare x e) (solved.declare slot s) = (slot ≡ length scope) × Resolves classes fields scope e s
-  ResolvesStatement classes fields scope (assign x e) (solved.assign slot s) = IsPlace scope x slot × Resolves classes fields scope e s
-  ResolvesStatement classes fields scope (set_field x e) (solved.set_field slot s) = IsPlace fields x slot × Resolves classes fields scope e s
+  ResolvesStatement classes fields scope (declare x e) (solved.declare slot s) =
+      (slot ≡ length scope) × Resolves classes fields scope e s
+  ResolvesStatement classes fields scope (assign x e) (solved.assign slot s) =
+      IsPlace scope x slot × Resolves classes fields scope e s
+  ResolvesStatement classes fields scope (set_field x e) (solved.set_field slot s) =
+      IsPlace fields x slot × Resolves classes fields scope e s
   ResolvesStatement classes fields scope (when test block other) (solved.when t b o) =
-      Resolves classes fields scope test t × ResolvesBlock classes fields scope block b × ResolvesElse classes fields scope other o
-  ResolvesStatement classes fields scope (while test block) (solved.while t b) = Resolves classes fields scope test t × ResolvesBlock classes fields scope block b
+      Resolves classes fields scope test t × ResolvesBlock classes fields scope block b
+      × ResolvesElse classes fields scope other o
+  ResolvesStatement classes fields scope (while test block) (solved.while t b) =
+      Resolves classes fields scope test t × ResolvesBlock classes fields scope block b
   ResolvesStatement classes fields scope (give e) (solved.give s) = Resolves classes fields scope e s
   ResolvesStatement classes fields scope (do_ e) (solved.do_ s) = Resolves classes fields scope e s
   ResolvesStatement classes fields scope _ _ = ⊥
@@ -58,17 +69,20 @@ abbrev mutual
 
   pub ResolvesElse : List Name → List Name → List Name → Otherwise → SolvedOtherwise → Type 0
   ResolvesElse classes fields scope no_else solved.no_else = Unit {0}
-  ResolvesElse classes fields scope (else_block block) (solved.else_block b) = ResolvesBlock classes fields scope block b
+  ResolvesElse classes fields scope (else_block block) (solved.else_block b) =
+      ResolvesBlock classes fields scope block b
   ResolvesElse classes fields scope _ _ = ⊥
 
 -- the parameters have the first slots, and there are as many slots as names are ever in scope at once
 abbrev pub ResolvesMethod : List Name → List Name → MethodTree → SolvedMethod → Type 0
 ResolvesMethod classes fields m s =
-    (s.params ≡ length m.params) × (s.slots ≡ slots_of_statements m.params m.body) × ResolvesBlock classes fields m.params m.body s.body
+    (s.params ≡ length m.params) × (s.slots ≡ slots_of_statements m.params m.body)
+    × ResolvesBlock classes fields m.params m.body s.body
 
 abbrev pub ResolvesMethods : List Name → List Name → List MethodTree → List SolvedMethod → Type 0
 ResolvesMethods classes fields [] [] = Unit {0}
-ResolvesMethods classes fields (m ∷ ms) (s ∷ ss) = ResolvesMethod classes fields m s × ResolvesMethods classes fields ms ss
+ResolvesMethods classes fields (m ∷ ms) (s ∷ ss) =
+    ResolvesMethod classes fields m s × ResolvesMethods classes fields ms ss
 ResolvesMethods classes fields _ _ = ⊥
 
 abbrev pub ResolvesClasses : List Name → ProgramTree → List (List SolvedMethod) → Type 0

@@ -16,7 +16,8 @@ abbrev mutual
 
   pub slots_of_statements : List Name → Statements → ℕ
   slots_of_statements scope no_statements = length scope
-  slots_of_statements scope (statement s ss) = max (slots_of_statement scope s) (slots_of_statements (scope_behind scope s) ss)
+  slots_of_statements scope (statement s ss) =
+      max (slots_of_statement scope s) (slots_of_statements (scope_behind scope s) ss)
 
   pub slots_of_else : List Name → Otherwise → ℕ
   slots_of_else scope no_else = length scope

@@ -22,7 +22,8 @@ solved_expression_step (SolvedExpr-F.Unary op of) = unary op of.value
 solved_expression_step (SolvedExpr-F.Binary op left right) = binary op left.value right.value
 solved_expression_step (SolvedExpr-F.Builtin name args) = builtin name (solved_expressions_of args.items)
 solved_expression_step (SolvedExpr-F.Call object name args) = call object.value name (solved_expressions_of args.items)
-solved_expression_step (SolvedExpr-F.Future object delay name args) = future object.value delay.value name (solved_expressions_of args.items)
+solved_expression_step (SolvedExpr-F.Future object delay name args) =
+    future object.value delay.value name (solved_expressions_of args.items)
 solved_expression_step (SolvedExpr-F.Create class options) = create class options.value
 
 abbrev pub solved_expression : SolvedExpr → SolvedExpression
@@ -39,7 +40,8 @@ abbrev pub solved_statement_step : SolvedStmt-F SolvedStatement → SolvedStatem
 solved_statement_step (SolvedStmt-F.Let slot value) = declare slot (solved_expression value)
 solved_statement_step (SolvedStmt-F.Assign slot value) = assign slot (solved_expression value)
 solved_statement_step (SolvedStmt-F.SetField slot value) = set_field slot (solved_expression value)
-solved_statement_step (SolvedStmt-F.If test block other) = when (solved_expression test) (solved_statements_of block.items) (solved_else_of other)
+solved_statement_step (SolvedStmt-F.If test block other) =
+    when (solved_expression test) (solved_statements_of block.items) (solved_else_of other)
 solved_statement_step (SolvedStmt-F.While test body) = while (solved_expression test) (solved_statements_of body.items)
 solved_statement_step (SolvedStmt-F.Return value) = give (solved_expression value)
 solved_statement_step (SolvedStmt-F.Do value) = do_ (solved_expression value)

@@ -45,14 +45,17 @@ impl Model for Checked {
 
     ghost view = { λ checked. record { classes = checked.program; persisted = checked.persisted } };
 
-    ghost invariant = { λ checked. IsChecked (program_tree checked.program) checked.root (map (λ methods. map solved_method methods.items) checked.classes.items) };
+    ghost invariant = { λ checked.
+        IsChecked (program_tree checked.program) checked.root
+        (map (λ methods. map solved_method methods.items) checked.classes.items) };
 }
 
 impl Checked {
     /// The program without faults that is made of these parts: the program itself, the number of its class Root, and its
     /// methods resolved. Its persisted value is nil.
     pub fn of_parts(program: Program, root: u16, classes: Vec<Vec<Solved>>) -> Checked
-        requires { IsChecked (program_tree program) root (map (λ methods. map solved_method methods.items) classes.items) }
+        requires { IsChecked (program_tree program) root
+            (map (λ methods. map solved_method methods.items) classes.items) }
         ensures { result ≡ record { classes = program; persisted = nil } }
     {
         Checked {
@@ -135,9 +138,10 @@ impl Checked {
     }
 }
 
-// The place of the method of that name among methods.
+/// The place of the method of that name among methods.
 fn method_place(methods: &[Method], name: &Text) -> Option<usize>
-    ensures { let trees = map method_tree methods.now in option_and_then (slice_get trees) result ≡ method_named name.now trees }
+    ensures { let trees = map method_tree methods.now in option_and_then (slice_get trees) result
+        ≡ method_named name.now trees }
 {
     for i in 0..methods.len() {
         if is_name(name, &methods[i].name) {

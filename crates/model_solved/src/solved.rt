@@ -10,7 +10,7 @@ pub struct Solved {
     /// The number of its parameters, which have the first slots, in order.
     pub params: u32,
     /// The number of its slots: the greatest number of names that are in scope at a place.
-    pub slots: u32,
+    pub slots: usize,
     pub body: Vec<SolvedStmt>,
 }
 
@@ -19,12 +19,12 @@ pub struct Solved {
 pub enum SolvedStmt {
     /// `let name = value;`
     Let {
-        slot: u32,
+        slot: usize,
         value: SolvedExpr,
     },
     /// `name = value;`
     Assign {
-        slot: u32,
+        slot: usize,
         value: SolvedExpr,
     },
     /// `this.name = value;`
@@ -63,7 +63,7 @@ pub enum SolvedExpr {
     This,
     /// The name in scope that has this place among those, from 0.
     Local {
-        slot: u32,
+        slot: usize,
     },
     /// The field of the class that has this place among its fields, from 0.
     Field {

@@ -81,7 +81,8 @@ tokens_of = flat_map token_of
 
 -- the text is pieces one behind the other, and these are the tokens among them
 abbrev pub Divides : List Token → List ℕ → Type 0
-Divides tokens text = (pieces : List Piece) × ArePieces pieces × (spelling_of pieces ≡ text) × (tokens_of pieces ≡ tokens)
+Divides tokens text = (pieces : List Piece) × ArePieces pieces × (spelling_of pieces ≡ text)
+    × (tokens_of pieces ≡ tokens)
 
 -- the tokens that the text is divided into, or that it is divided into none
 abbrev pub Tokenizes : Result (List Token) TokenFault → List ℕ → Type 0

@@ -42,7 +42,8 @@ word_among [] bytes = None
 word_among (word ∷ words) bytes = if bytes_eq bytes (spelled_word word) then Some word else word_among words bytes
 
 abbrev pub every_word : List Word
-every_word = word.Class ∷ word.Field ∷ word.Let ∷ word.If ∷ word.Else ∷ word.While ∷ word.Return ∷ word.This ∷ word.Nil ∷ word.True ∷ word.False ∷ word.Create ∷ word.Future ∷ []
+every_word = word.Class ∷ word.Field ∷ word.Let ∷ word.If ∷ word.Else ∷ word.While ∷ word.Return ∷ word.This ∷ word.Nil
+    ∷ word.True ∷ word.False ∷ word.Create ∷ word.Future ∷ []
 
 abbrev pub token_of_name : Option Word → List ℕ → Token
 token_of_name (Some word) bytes = token.Word word
@@ -51,12 +52,16 @@ token_of_name None bytes = if begins_class_name (slice_index bytes 0) then token
 abbrev pub name_token_at : List ℕ → TokenRead
 name_token_at text =
     if nat_lt longest_name (prefix_len goes_on_name text) then None
-    else Some (a_token (token_of_name (word_among every_word (front goes_on_name text)) (front goes_on_name text)), rest_past goes_on_name text)
+    else Some (
+      a_token (token_of_name (word_among every_word (front goes_on_name text)) (front goes_on_name text)),
+      rest_past goes_on_name text,
+    )
 
 -- ---- numbers
 
 abbrev pub number_in_bounds : ℕ → List ℕ → TokenRead
-number_in_bounds number rest = if nat_le number 9_223_372_036_854_775_807 then Some (a_token (token.Number (pos number)), rest) else None
+number_in_bounds number rest =
+    if nat_le number 9_223_372_036_854_775_807 then Some (a_token (token.Number (pos number)), rest) else None
 
 abbrev pub number_token_at : List ℕ → TokenRead
 number_token_at text =
@@ -110,7 +115,8 @@ literal_step byte bytes (Some found) more = with_front found.0 (more found.1)
 abbrev pub literal_at : ℕ → List ℕ → Option (List ℕ × List ℕ)
 literal_at passed [] = None
 literal_at (suc passed) (byte ∷ bytes) = literal_at passed bytes
-literal_at zero (byte ∷ bytes) = literal_step byte bytes (literal_byte_at (byte ∷ bytes)) (λ passed. literal_at passed bytes)
+literal_at zero (byte ∷ bytes) =
+    literal_step byte bytes (literal_byte_at (byte ∷ bytes)) (λ passed. literal_at passed bytes)
 
 -- the text of its bytes, if they are UTF-8
 abbrev pub as_characters : Option (List ℕ × List ℕ) → Option (List ℕ × List ℕ)
@@ -133,9 +139,12 @@ single_among (row ∷ rows) byte = if byte == row.0 then Some row.1 else single_
 
 abbrev pub singles : List (ℕ × Symbol)
 singles =
-    (123, symbol.OpenBrace) ∷ (125, symbol.CloseBrace) ∷ (40, symbol.OpenRound) ∷ (41, symbol.CloseRound) ∷ (91, symbol.OpenSquare) ∷ (93, symbol.CloseSquare)
-    ∷ (44, symbol.Comma) ∷ (59, symbol.Semicolon) ∷ (46, symbol.Dot) ∷ (61, symbol.Assign) ∷ (60, symbol.Less) ∷ (62, symbol.Greater)
-    ∷ (43, symbol.Plus) ∷ (45, symbol.Minus) ∷ (42, symbol.Times) ∷ (47, symbol.Divide) ∷ (37, symbol.Rest) ∷ (33, symbol.Not) ∷ []
+    (123, symbol.OpenBrace) ∷ (125, symbol.CloseBrace) ∷ (40, symbol.OpenRound) ∷ (41, symbol.CloseRound)
+    ∷ (91, symbol.OpenSquare) ∷ (93, symbol.CloseSquare)
+    ∷ (44, symbol.Comma) ∷ (59, symbol.Semicolon) ∷ (46, symbol.Dot) ∷ (61, symbol.Assign) ∷ (60, symbol.Less)
+    ∷ (62, symbol.Greater)
+    ∷ (43, symbol.Plus) ∷ (45, symbol.Minus) ∷ (42, symbol.Times) ∷ (47, symbol.Divide) ∷ (37, symbol.Rest)
+    ∷ (33, symbol.Not) ∷ []
 
 -- the symbol of two bytes
 abbrev pub double_of : ℕ → ℕ → Option Symbol

@@ -84,7 +84,8 @@ longest_name = 64
 -- letters, digits and `_`, not too many of them, of which the first passes the test
 abbrev pub IsNamed : (ℕ → Bool) → List ℕ → Type 0
 IsNamed begins [] = ⊥
-IsNamed begins (byte ∷ bytes) = (begins byte ≡ true) × (list_all goes_on_name bytes ≡ true) × (length bytes < longest_name)
+IsNamed begins (byte ∷ bytes) = (begins byte ≡ true) × (list_all goes_on_name bytes ≡ true)
+    × (length bytes < longest_name)
 
 abbrev pub IsToken : Token → Type 0
 IsToken (token.Name name) = IsNamed begins_name name × ((word : Word) → name ≢ spelled_word word)

@@ -10,7 +10,7 @@ use crate::literals::text_of;
 use crate::token::{Token, Word};
 use std::alloc::Global;
 
-// How many bytes a name has at most.
+/// How many bytes a name has at most.
 pub const LONGEST_NAME: usize = 64;
 
 /// The reserved word that these bytes are.

@@ -11,7 +11,8 @@ use crate::token::Token;
 /// The number that the digits write, if it is at most 9,223,372,036,854,775,807.
 fn value(digits: &[u8]) -> Option<i64>
     requires { AllDigits 10 digits.now }
-    ensures { result ≡ (if nat_le (digits_value 10 digits.now) 9_223_372_036_854_775_807 then Some (pos (digits_value 10 digits.now)) else None) }
+    ensures { result ≡ (if nat_le (digits_value 10 digits.now) 9_223_372_036_854_775_807
+        then Some (pos (digits_value 10 digits.now)) else None) }
 {
     let mut value: u64 = 0;
     for digit in digits {

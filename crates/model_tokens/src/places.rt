@@ -47,7 +47,7 @@ fn from(text: &[u8], place: usize) -> &[u8] {
     text.get(place..).unwrap_or_default()
 }
 
-// A place as a number, or the end where it would lie behind the text.
+/// A place as a number, or the end where it would lie behind the text.
 fn within(text: &[u8], place: usize) -> u32
     ensures { result ≤ length text.now }
 {
@@ -61,7 +61,7 @@ fn begins_token(text: &[u8]) -> bool {
     }
 }
 
-// How many bytes the piece at the front has.
+/// How many bytes the piece at the front has.
 fn piece_length(text: &[u8]) -> usize {
     let Some((first, behind)) = text.split_first() else {
         return 0;
@@ -79,7 +79,7 @@ fn piece_length(text: &[u8]) -> usize {
     }
 }
 
-// Where the piece at the front goes wrong, if it does.
+/// Where the piece at the front goes wrong, if it does.
 fn piece_fault(text: &[u8]) -> Option<usize> {
     let (first, behind) = text.split_first()?;
     match begins(*first) {
@@ -92,7 +92,7 @@ fn piece_fault(text: &[u8]) -> Option<usize> {
     }
 }
 
-// `&` and `|` begin a symbol, and alone are none.
+/// `&` and `|` begin a symbol, and alone are none.
 fn symbol_fault(first: u8) -> usize {
     match first {
         b'&' | b'|' => 1,
@@ -100,7 +100,7 @@ fn symbol_fault(first: u8) -> usize {
     }
 }
 
-// How many bytes from behind the first quote are the spelling of characters.
+/// How many bytes from behind the first quote are the spelling of characters.
 fn literal_length(text: &[u8]) -> usize {
     let mut length = 0;
     for _character in 0..text.len() {
@@ -112,7 +112,7 @@ fn literal_length(text: &[u8]) -> usize {
     length
 }
 
-// Where a text literal goes wrong, from behind its first quote, if it does.
+/// Where a text literal goes wrong, from behind its first quote, if it does.
 fn literal_fault(text: &[u8]) -> Option<usize> {
     let length = literal_length(text);
     let spelled = text.get(..length).unwrap_or_default();
@@ -130,7 +130,7 @@ fn literal_fault(text: &[u8]) -> Option<usize> {
     }
 }
 
-// Where bytes go wrong as UTF-8, if they do.
+/// Where bytes go wrong as UTF-8, if they do.
 fn character_fault(bytes: &[u8]) -> Option<usize> {
     let error = str::from_utf8(bytes).err()?;
     let start = error.valid_up_to();
@@ -142,7 +142,7 @@ fn character_fault(bytes: &[u8]) -> Option<usize> {
     }
 }
 
-// Where an escape goes wrong, from behind its backslash.
+/// Where an escape goes wrong, from behind its backslash.
 fn escape_fault(text: &[u8]) -> usize {
     match text.split_first() {
         Some((b'x', digits)) => match digits.first() {

@@ -25,7 +25,8 @@ fn hex_digit(digit: u32) -> char
 /// Appends the escape of a control, other than an LF.
 fn push_control(out: &mut String, code: u32) -> Result<(), AllocError>
     requires { code < 256 }
-    ensures { OnOk result (string_bytes out.new ≡ string_bytes out.old ++ 92 ∷ 120 ∷ hex_digit (code / 16) ∷ hex_digit (code % 16) ∷ []) }
+    ensures { OnOk result (string_bytes out.new ≡ string_bytes out.old ++ 92 ∷ 120 ∷ hex_digit (code / 16)
+        ∷ hex_digit (code % 16) ∷ []) }
 {
     out.push_str("\\x")?;
     out.push(hex_digit(code / 16))?;
@@ -34,7 +35,9 @@ fn push_control(out: &mut String, code: u32) -> Result<(), AllocError>
 
 /// Appends the spelling of a character that is no quote, backslash or LF.
 fn push_other(out: &mut String, character: char) -> Result<(), AllocError>
-    ensures { OnOk result (string_bytes out.new ≡ string_bytes out.old ++ (if is_control character then 92 ∷ 120 ∷ hex_digit (character / 16) ∷ hex_digit (character % 16) ∷ [] else encode_utf8 character)) }
+    ensures { OnOk result (string_bytes out.new
+        ≡ string_bytes out.old ++ (if is_control character then 92 ∷ 120 ∷ hex_digit (character / 16)
+        ∷ hex_digit (character % 16) ∷ [] else encode_utf8 character)) }
 {
     let code = u32::from(character);
     if is_control(code) {

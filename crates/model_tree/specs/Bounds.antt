@@ -75,7 +75,8 @@ abbrev mutual
   FewArguments (binary op a b) = FewArguments a × FewArguments b
   FewArguments (builtin x args) = AllFewArguments args
   FewArguments (call object x args) = FewArguments object × ((how_many args ≤ most_arguments) × AllFewArguments args)
-  FewArguments (future object delay x args) = FewArguments object × FewArguments delay × ((how_many args ≤ most_arguments) × AllFewArguments args)
+  FewArguments (future object delay x args) =
+      FewArguments object × FewArguments delay × ((how_many args ≤ most_arguments) × AllFewArguments args)
   FewArguments (create x options) = FewArguments options
 
   pub AllFewArguments : Expressions → Type 0
@@ -142,9 +143,12 @@ abbrev mutual
   many_arguments (unary op e) = many_arguments e
   many_arguments (binary op a b) = first_found (many_arguments a) (many_arguments b)
   many_arguments (builtin x args) = all_many_arguments args
-  many_arguments (call object x args) = first_found (many_arguments object) (first_found (above most_arguments (how_many args)) (all_many_arguments args))
+  many_arguments (call object x args) =
+      first_found (many_arguments object) (first_found (above most_arguments (how_many args)) (all_many_arguments args))
   many_arguments (future object delay x args) =
-      first_found (many_arguments object) (first_found (many_arguments delay) (first_found (above most_arguments (how_many args)) (all_many_arguments args)))
+      first_found (many_arguments object)
+      (first_found (many_arguments delay)
+      (first_found (above most_arguments (how_many args)) (all_many_arguments args)))
   many_arguments (create x options) = many_arguments options
 
   pub all_many_arguments : Expressions → Option ℕ
@@ -156,7 +160,8 @@ abbrev mutual
   many_in_statement (declare x e) = many_arguments e
   many_in_statement (assign x e) = many_arguments e
   many_in_statement (set_field x e) = many_arguments e
-  many_in_statement (when test block other) = first_found (many_arguments test) (first_found (many_in_block block) (many_in_else other))
+  many_in_statement (when test block other) =
+      first_found (many_arguments test) (first_found (many_in_block block) (many_in_else other))
   many_in_statement (while test block) = first_found (many_arguments test) (many_in_block block)
   many_in_statement (give e) = many_arguments e
   many_in_statement (do_ e) = many_arguments e
@@ -172,7 +177,8 @@ abbrev mutual
 -- the parameters of a method stand before its body
 abbrev pub many_in_methods : List MethodTree → Option ℕ
 many_in_methods [] = None
-many_in_methods (m ∷ ms) = first_found (first_found (above most_arguments (length m.params)) (many_in_block m.body)) (many_in_methods ms)
+many_in_methods (m ∷ ms) = first_found (first_found (above most_arguments (length m.params)) (many_in_block m.body))
+    (many_in_methods ms)
 
 abbrev pub many_parameters : List ClassTree → Option ℕ
 many_parameters [] = None
@@ -195,4 +201,5 @@ or_else what (Some count) behind = Some (what, count)
 abbrev pub first_excess : ProgramTree → Option (Bound × ℕ)
 first_excess cs =
     or_else bound.Classes (above most_members (length cs))
-    (or_else bound.Fields (many_fields cs) (or_else bound.Methods (many_methods cs) (or_else bound.Parameters (many_parameters cs) None)))
+    (or_else bound.Fields (many_fields cs)
+    (or_else bound.Methods (many_methods cs) (or_else bound.Parameters (many_parameters cs) None)))

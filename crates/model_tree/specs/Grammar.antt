@@ -100,7 +100,8 @@ abbrev mutual
   IsWellFormed (a_list items) = AreWellFormed items
   IsWellFormed (brackets a) = IsWellFormed a
   IsWellFormed (a_call object x args) = IsWellFormed object × (line object ≤ 0) × AreWellFormed args
-  IsWellFormed (a_future object delay x args) = IsWellFormed object × (line object ≤ 0) × IsWellFormed delay × AreWellFormed args
+  IsWellFormed (a_future object delay x args) = IsWellFormed object × (line object ≤ 0) × IsWellFormed delay
+      × AreWellFormed args
   IsWellFormed (a_unary o a) = IsWellFormed a × (line a ≤ 1)
   IsWellFormed (a_binary o a b) = IsWellFormed a × (line a ≤ left_of o) × IsWellFormed b × (line b < operator_line o)
 
@@ -150,12 +151,15 @@ abbrev mutual
   phrase_spelling (a_field x) = word w.This ∷ symbol s.Dot ∷ name x ∷ []
   phrase_spelling (a_local x) = name x ∷ []
   phrase_spelling (a_builtin x args) = name x ∷ in_round (args_spelling args)
-  phrase_spelling (a_create x options) = word w.Create ∷ in_round (class_name x ∷ symbol s.Comma ∷ phrase_spelling options)
+  phrase_spelling (a_create x options) =
+      word w.Create ∷ in_round (class_name x ∷ symbol s.Comma ∷ phrase_spelling options)
   phrase_spelling (a_list items) = in_square (args_spelling items)
   phrase_spelling (brackets a) = in_round (phrase_spelling a)
-  phrase_spelling (a_call object x args) = phrase_spelling object ++ symbol s.Dot ∷ name x ∷ in_round (args_spelling args)
+  phrase_spelling (a_call object x args) =
+      phrase_spelling object ++ symbol s.Dot ∷ name x ∷ in_round (args_spelling args)
   phrase_spelling (a_future object delay x args) =
-      phrase_spelling object ++ symbol s.Dot ∷ word w.Future ∷ (in_round (phrase_spelling delay) ++ symbol s.Dot ∷ name x ∷ in_round (args_spelling args))
+      phrase_spelling object ++ symbol s.Dot ∷ word w.Future
+      ∷ (in_round (phrase_spelling delay) ++ symbol s.Dot ∷ name x ∷ in_round (args_spelling args))
   phrase_spelling (a_unary o a) = symbol (sign_symbol o) ∷ phrase_spelling a
   phrase_spelling (a_binary o a b) = phrase_spelling a ++ symbol (op_symbol o) ∷ phrase_spelling b
 
@@ -237,7 +241,8 @@ abbrev mutual
   action_spelling (a_set_field x a) = word w.This ∷ symbol s.Dot ∷ name x ∷ symbol s.Assign ∷ end_spelling a
   action_spelling (choice a block) = word w.If ∷ (in_round (phrase_spelling a) ++ in_braces (block_spelling block))
   action_spelling (choice_else a block other) =
-      word w.If ∷ (in_round (phrase_spelling a) ++ (in_braces (block_spelling block) ++ word w.Else ∷ in_braces (block_spelling other)))
+      word w.If ∷ (in_round (phrase_spelling a)
+      ++ (in_braces (block_spelling block) ++ word w.Else ∷ in_braces (block_spelling other)))
   action_spelling (a_while a block) = word w.While ∷ (in_round (phrase_spelling a) ++ in_braces (block_spelling block))
   action_spelling (a_return a) = word w.Return ∷ end_spelling a
   action_spelling (a_do a) = end_spelling a
@@ -253,7 +258,8 @@ abbrev mutual
   tree_of_action (an_assignment x a) = assign x (tree_of a)
   tree_of_action (a_set_field x a) = set_field x (tree_of a)
   tree_of_action (choice a block) = when (tree_of a) (trees_of_block block) no_else
-  tree_of_action (choice_else a block other) = when (tree_of a) (trees_of_block block) (else_block (trees_of_block other))
+  tree_of_action (choice_else a block other) =
+      when (tree_of a) (trees_of_block block) (else_block (trees_of_block other))
   tree_of_action (a_while a block) = while (tree_of a) (trees_of_block block)
   tree_of_action (a_return a) = give (tree_of a)
   tree_of_action (a_do a) = do_ (tree_of a)
@@ -319,4 +325,5 @@ tree_of_class c = record { name = c.name; fields = c.fields; methods = map tree_
 -- program = class class*
 -- these tokens are a program, which stands for this tree
 abbrev pub Derives : List Token → ProgramTree → Type 0
-Derives ts tree = (cs : List ClassForm) × (0 < length cs) × AreWellFormedClasses cs × (classes_spelling cs ≡ ts) × (map tree_of_class cs ≡ tree)
+Derives ts tree = (cs : List ClassForm) × (0 < length cs) × AreWellFormedClasses cs × (classes_spelling cs ≡ ts)
+    × (map tree_of_class cs ≡ tree)

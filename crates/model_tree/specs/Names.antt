@@ -24,7 +24,8 @@ abbrev mutual
   HasShortNames (binary op a b) = HasShortNames a × HasShortNames b
   HasShortNames (builtin x args) = IsShortName x × AllHaveShortNames args
   HasShortNames (call object x args) = HasShortNames object × IsShortName x × AllHaveShortNames args
-  HasShortNames (future object delay x args) = HasShortNames object × HasShortNames delay × IsShortName x × AllHaveShortNames args
+  HasShortNames (future object delay x args) = HasShortNames object × HasShortNames delay × IsShortName x
+      × AllHaveShortNames args
   HasShortNames (create x options) = IsShortName x × HasShortNames options
 
   pub AllHaveShortNames : Expressions → Type 0
@@ -51,8 +52,10 @@ abbrev mutual
 
 abbrev pub MethodNamesAreShort : List MethodTree → Type 0
 MethodNamesAreShort [] = Unit {0}
-MethodNamesAreShort (m ∷ ms) = (IsShortName m.name × AreShort m.params × AllNamesAreShort m.body) × MethodNamesAreShort ms
+MethodNamesAreShort (m ∷ ms) = (IsShortName m.name × AreShort m.params × AllNamesAreShort m.body)
+    × MethodNamesAreShort ms
 
 abbrev pub ClassNamesAreShort : ProgramTree → Type 0
 ClassNamesAreShort [] = Unit {0}
-ClassNamesAreShort (c ∷ cs) = (IsShortName c.name × AreShort c.fields × MethodNamesAreShort c.methods) × ClassNamesAreShort cs
+ClassNamesAreShort (c ∷ cs) = (IsShortName c.name × AreShort c.fields × MethodNamesAreShort c.methods)
+    × ClassNamesAreShort cs

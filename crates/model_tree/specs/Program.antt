@@ -39,8 +39,10 @@ IsProgram tree = (text : List ℕ) × IsRead text tree
 abbrev pub ArePast : Bound → ℕ → List Token → Type 0
 ArePast what count ts =
     ((most_nested < greatest brackets_after 0 ts) × (what ≡ bound.Brackets) × (count ≡ most_nested + 1))
-    ⊎ ((FewBrackets ts × (most_nested < greatest operators_after 0 ts) × (what ≡ bound.Operators) × (count ≡ most_nested + 1))
-    ⊎ (FewBrackets ts × FewOperators ts × ((tree : ProgramTree) × Derives ts tree × (first_excess tree ≡ Some (what, count)))))
+    ⊎ ((FewBrackets ts × (most_nested < greatest operators_after 0 ts) × (what ≡ bound.Operators)
+    × (count ≡ most_nested + 1))
+    ⊎ (FewBrackets ts × FewOperators ts
+    × ((tree : ProgramTree) × Derives ts tree × (first_excess tree ≡ Some (what, count)))))
 
 -- the bound that the text passes first, and the count
 abbrev pub IsTooLarge : Bound → ℕ → List ℕ → Type 0

@@ -23,7 +23,8 @@ expression_step (Expr-F.Unary op of) = unary op of.value
 expression_step (Expr-F.Binary op left right) = binary op left.value right.value
 expression_step (Expr-F.Builtin name args) = builtin name (expressions_of args.items)
 expression_step (Expr-F.Call object name args) = call object.value name (expressions_of args.items)
-expression_step (Expr-F.Future object delay name args) = future object.value delay.value name (expressions_of args.items)
+expression_step (Expr-F.Future object delay name args) =
+    future object.value delay.value name (expressions_of args.items)
 expression_step (Expr-F.Create class options) = create class options.value
 
 abbrev pub expression_tree : Expr → Expression

@@ -33,7 +33,8 @@ pub record IsPayload (p : PlainPayload) : Type 0 where
 
 -- reading a payload
 unfoldable pub payload_at : Decoder PlainPayload
-payload_at = made_at (λ p. record { scope = p.0; event = p.1.0; value = p.1.1 }) (paired_at text_at (paired_at text_at bounded_at))
+payload_at = made_at (λ p. record { scope = p.0; event = p.1.0; value = p.1.1 })
+    (paired_at text_at (paired_at text_at bounded_at))
 
 -- the payload that bytes spell, if they spell one
 abbrev pub whole_payload : List ℕ → Option PlainPayload

@@ -29,11 +29,13 @@ abbrev mutual
   marks_of_all (item value rest) = marks_of_all rest ++ (marks value ++ mark 8 ∷ [])
 
 -- a reader holds the trees and the rows of trees that are not used yet
-abbrev pub wrap_list : List PlainValue → List PlainValues → (List PlainValue → List PlainValues → List PlainValue) → List PlainValue
+abbrev pub wrap_list : List PlainValue → List PlainValues → (List PlainValue → List PlainValues → List PlainValue)
+    → List PlainValue
 wrap_list values [] next = []
 wrap_list values (row ∷ rows) next = next (list row ∷ values) rows
 
-abbrev pub join_item : List PlainValue → List PlainValues → (List PlainValue → List PlainValues → List PlainValue) → List PlainValue
+abbrev pub join_item : List PlainValue → List PlainValues → (List PlainValue → List PlainValues → List PlainValue)
+    → List PlainValue
 join_item [] rows next = []
 join_item (value ∷ values) [] next = []
 join_item (value ∷ values) (row ∷ rows) next = next values (item value row ∷ rows)
@@ -42,7 +44,8 @@ abbrev pub first_code_number : List ℕ → ℕ
 first_code_number [] = 0
 first_code_number (number ∷ rest) = number
 
-abbrev pub read_mark : ℕ → ℤ → List ℕ → List PlainValue → List PlainValues → (List PlainValue → List PlainValues → List PlainValue) → List PlainValue
+abbrev pub read_mark : ℕ → ℤ → List ℕ → List PlainValue → List PlainValues
+    → (List PlainValue → List PlainValues → List PlainValue) → List PlainValue
 read_mark zero n s values rows next = next (nil ∷ values) rows
 read_mark (suc zero) n s values rows next = next (bool false ∷ values) rows
 read_mark (suc (suc zero)) n s values rows next = next (bool true ∷ values) rows
@@ -64,21 +67,25 @@ first_value (value ∷ values) = value
 abbrev pub from_marks : List Mark → PlainValue
 from_marks ms = first_value (read_marks ms [] [])
 
-read_bool : (flag : Bool) (more : List Mark) (values : List PlainValue) (rows : List PlainValues) → read_marks (mark_bool flag ∷ more) values rows ≡ read_marks more (bool flag ∷ values) rows
+read_bool : (flag : Bool) (more : List Mark) (values : List PlainValue) (rows : List PlainValues)
+    → read_marks (mark_bool flag ∷ more) values rows ≡ read_marks more (bool flag ∷ values) rows
 read_bool false more values rows = refl
 read_bool true more values rows = refl
 
 mutual
-  reads : (value : PlainValue) (more : List Mark) (values : List PlainValue) (rows : List PlainValues) → read_marks (marks value ++ more) values rows ≡ read_marks more (value ∷ values) rows
+  reads : (value : PlainValue) (more : List Mark) (values : List PlainValue) (rows : List PlainValues)
+      → read_marks (marks value ++ more) values rows ≡ read_marks more (value ∷ values) rows
   reads nil more values rows = refl
   reads (bool flag) more values rows = read_bool flag more values rows
   reads (int number) more values rows = refl
   reads (text characters) more values rows = refl
   reads (ref object) more values rows = refl
   reads (list items) more values rows =
-      ap (λ ms. read_marks ms values rows) (append_assoc (marks_of_all items) (mark 6 ∷ []) more) ∙ reads_all items (mark 6 ∷ more) values rows
+      ap (λ ms. read_marks ms values rows) (append_assoc (marks_of_all items) (mark 6 ∷ []) more) ∙ reads_all items
+      (mark 6 ∷ more) values rows
 
-  reads_all : (items : PlainValues) (more : List Mark) (values : List PlainValue) (rows : List PlainValues) → read_marks (marks_of_all items ++ more) values rows ≡ read_marks more values (items ∷ rows)
+  reads_all : (items : PlainValues) (more : List Mark) (values : List PlainValue) (rows : List PlainValues)
+      → read_marks (marks_of_all items ++ more) values rows ≡ read_marks more values (items ∷ rows)
   reads_all no_items more values rows = refl
   reads_all (item value rest) more values rows =
       ap (λ ms. read_marks ms values rows) (append_assoc (marks_of_all rest) (marks value ++ mark 8 ∷ []) more)
@@ -87,7 +94,9 @@ mutual
       ∙ reads value (mark 8 ∷ more) values (rest ∷ rows)
 
 pub from-marks : (value : PlainValue) → from_marks (marks value) ≡ value
-from-marks value = ap (λ ms. first_value (read_marks ms [] [])) (sym (append-nil (marks value))) ∙ ap first_value (reads value [] [] [])
+from-marks value = ap (λ ms. first_value (read_marks ms [] [])) (sym (append-nil (marks value))) ∙ ap first_value
+    (reads value [] [] [])
 
 abbrev pub coded_plain : Coded PlainValue
-coded_plain = code_by (List Mark) (coded_list (coded× coded_ℕ (coded× coded_ℤ (coded_list coded_ℕ)))) marks from_marks from-marks
+coded_plain = code_by (List Mark) (coded_list (coded× coded_ℕ (coded× coded_ℤ (coded_list coded_ℕ)))) marks from_marks
+    from-marks

@@ -42,7 +42,11 @@ pub fn write_and_read_payload(
     requires scope { length (encode_utf8_all scope.now) < 2 ^ 32 }
     requires event { length (encode_utf8_all event.now) < 2 ^ 32 }
     requires bounds { InBounds (plain value.now) }
-    ensures same { IfOk result (λ read. plain_payload read ≡ record { scope = scope.now; event = event.now; value = plain value.now }) }
+    ensures same { IfOk result (λ read. plain_payload read ≡ record {
+      scope = scope.now;
+      event = event.now;
+      value = plain value.now;
+    }) }
     ensures want { IfErr result (λ fault. fault ≡ ValueFault.WantOfMemory) }
 {
     let bytes = payload(alloc, scope, event, value)?;

@@ -27,9 +27,11 @@ pub fn payload(
     requires scope_fits { length (encode_utf8_all scope.now) < 2 ^ 32 }
     requires event_fits { length (encode_utf8_all event.now) < 2 ^ 32 }
     requires value_fits { weight_of (plain value.now) < 2 ^ 28 }
-    ensures spelled { IfOk result (λ bytes. bytes ≡ payload_spelling (record { scope = scope.now; event = event.now; value = plain value.now })) }
+    ensures spelled { IfOk result (λ bytes. bytes
+        ≡ payload_spelling (record { scope = scope.now; event = event.now; value = plain value.now })) }
     // What is written of a value in bounds is read again.
-    ensures payload { IfOk result (λ _. InBounds (plain value.now) → IsPayload (record { scope = scope.now; event = event.now; value = plain value.now })) }
+    ensures payload { IfOk result (λ _. InBounds (plain value.now)
+        → IsPayload (record { scope = scope.now; event = event.now; value = plain value.now })) }
 {
     let mut out = Writer::new(alloc);
     out.put_text(scope)?;
@@ -50,7 +52,8 @@ pub fn read_payload(alloc: Global, bytes: &[u8]) -> Result<(Text, Text, Value), 
     // No payload has a spelling that is refused.
     ensures bad { result ≡ Err ValueFault.BadValue → (p : PlainPayload) → IsPayload p → bytes.now ≢ payload_spelling p }
     // What is spelled so is read, unless memory runs out.
-    ensures only { (p : PlainPayload) → IsPayload p → bytes.now ≡ payload_spelling p → IfOk result (λ read. plain_payload read ≡ p) }
+    ensures only { (p : PlainPayload) → IsPayload p → bytes.now ≡ payload_spelling p
+        → IfOk result (λ read. plain_payload read ≡ p) }
 {
     read_all(alloc, bytes)
 }

@@ -24,9 +24,11 @@ pub fn decode(alloc: Global, bytes: &[u8]) -> Result<Value, ValueFault>
     ensures spelled { IfOk result (λ value. bytes.now ≡ value_spelling (plain value)) }
     ensures bounds { IfOk result (λ value. InBounds (plain value)) }
     // No value in bounds has a spelling that is refused.
-    ensures bad { result ≡ Err ValueFault.BadValue → (value : PlainValue) → IsValue value → InBounds value → bytes.now ≢ value_spelling value }
+    ensures bad { result ≡ Err ValueFault.BadValue → (value : PlainValue) → IsValue value → InBounds value
+        → bytes.now ≢ value_spelling value }
     // What is spelled so is read, unless memory runs out.
-    ensures only { (value : PlainValue) → IsValue value → InBounds value → bytes.now ≡ value_spelling value → IfOk result (λ read. plain read ≡ value) }
+    ensures only { (value : PlainValue) → IsValue value → InBounds value → bytes.now ≡ value_spelling value
+        → IfOk result (λ read. plain read ≡ value) }
 {
     read_all(alloc, bytes)
 }
@@ -62,7 +64,8 @@ fn value_in(
     room: u32,
     bytes: &[u8],
 ) -> Result<(Value, u32, &[u8]), ValueFault>
-    ensures { Decodes ValueFault.BadValue (λ x. ((plain x.0, x.1), x.2.now)) result (weighed_at weight room (value_at levels) bytes.now) }
+    ensures { Decodes ValueFault.BadValue (λ x. ((plain x.0, x.1), x.2.now)) result
+        (weighed_at weight room (value_at levels) bytes.now) }
 {
     // Each value weighs at least 1.
     if room == 0 {
@@ -81,7 +84,8 @@ fn value_of_kind(
     kind: u8,
     bytes: &[u8],
 ) -> Result<(Value, u32, &[u8]), ValueFault>
-    ensures { Decodes ValueFault.BadValue (λ x. ((plain x.0, x.1), x.2.now)) result (weighed_at weight (room + 1) (value_of_kind (items_in levels) kind) bytes.now) }
+    ensures { Decodes ValueFault.BadValue (λ x. ((plain x.0, x.1), x.2.now)) result
+        (weighed_at weight (room + 1) (value_of_kind (items_in levels) kind) bytes.now) }
 {
     match kind {
         0 => Ok((Value::Nil, room, bytes)),
@@ -109,7 +113,8 @@ fn value_of_kind(
 
 /// A text, of which 1 of the weight is already taken off the room.
 fn text_in(alloc: Global, room: u32, bytes: &[u8]) -> Result<(Text, u32, &[u8]), ValueFault>
-    ensures { Decodes ValueFault.BadValue (λ x. ((x.0, x.1), x.2.now)) result (weighed_at text_weight (room + 1) text_field_at bytes.now) }
+    ensures { Decodes ValueFault.BadValue (λ x. ((x.0, x.1), x.2.now)) result
+        (weighed_at text_weight (room + 1) text_field_at bytes.now) }
 {
     let (text, rest) = text_at(bytes).ok_or(ValueFault::BadValue)?;
     let blocks = blocks(text);
@@ -135,7 +140,8 @@ fn items_in(
     room: u32,
     bytes: &[u8],
 ) -> Result<(Vec<Value>, u32, &[u8]), ValueFault>
-    ensures { Decodes ValueFault.BadValue (λ x. ((plains x.0.items, x.1), x.2.now)) result (weighed_at weight_of_all room (items_in levels) bytes.now) }
+    ensures { Decodes ValueFault.BadValue (λ x. ((plains x.0.items, x.1), x.2.now)) result
+        (weighed_at weight_of_all room (items_in levels) bytes.now) }
 {
     if levels == 0 {
         return Err(ValueFault::BadValue);
@@ -153,7 +159,8 @@ fn items_of(
     count: u32,
     bytes: &[u8],
 ) -> Result<(Vec<Value>, u32, &[u8]), ValueFault>
-    ensures { Decodes ValueFault.BadValue (λ x. ((plain_values x.0.items, x.1), x.2.now)) result (weighed_at values_weight room (items_at (λ _. value_at levels) [] count) bytes.now) }
+    ensures { Decodes ValueFault.BadValue (λ x. ((plain_values x.0.items, x.1), x.2.now)) result
+        (weighed_at values_weight room (items_at (λ _. value_at levels) [] count) bytes.now) }
 {
     let mut items = Vec::new(alloc);
     let mut left = room;

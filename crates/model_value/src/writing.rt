@@ -73,7 +73,8 @@ pub fn put_value(out: &mut Writer, value: &Value) -> Result<(), WantOfMemory>
 #[tactic(auto, using(crate::proofs::Spellings::by_weight))]
 fn put_list(out: &mut Writer, items: &[Value]) -> Result<(), WantOfMemory>
     requires { weight_of_all (plains items.now) < 2 ^ 28 }
-    ensures spelled { OnOk result (out.new ≡ out.old ++ to_be_bytes w32 (item_count (plains items.now)) ++ items_spelling (plains items.now)) }
+    ensures spelled { OnOk result (out.new ≡ out.old ++ to_be_bytes w32 (item_count (plains items.now))
+        ++ items_spelling (plains items.now)) }
     ensures values { OnOk result (AreValues (plains items.now)) }
 {
     out.put_count(items.len())?;

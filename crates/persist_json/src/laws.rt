@@ -14,7 +14,8 @@ use std::alloc::Global;
 
 /// No two values without objects have the same data.
 pub fn data_is_of_one_value()
-    ensures { (v w : PlainValue) → IsValue v → IsValue w → has_ref v ≡ false → has_ref w ≡ false → data_of v ≡ data_of w → v ≡ w }
+    ensures { (v w : PlainValue) → IsValue v → IsValue w → has_ref v ≡ false → has_ref w ≡ false → data_of v ≡ data_of w
+        → v ≡ w }
 {}
 
 /// A value that can be saved, written and read again. Fails only where it is out of memory.

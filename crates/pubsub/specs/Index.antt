@@ -51,11 +51,15 @@ FindsSame old new = (scope event : List ℕ) → handlers_at new scope event ≡
 
 -- new finds the handler of a subscription behind what old finds in its topic, and elsewhere what old does
 abbrev pub FindsMore : Subscription → TopicIndex → TopicIndex → Type 0
-FindsMore s old new = AtEachTopic (λ scope event. handlers_found new scope event ≡ (if is_to scope event s then handlers_found old scope event ++ handler_of s ∷ [] else handlers_found old scope event))
+FindsMore s old new = AtEachTopic (λ scope event. handlers_found new scope event
+    ≡ (if is_to scope event s then handlers_found old scope event ++ handler_of s ∷ []
+    else handlers_found old scope event))
 
 -- new does not find the handler of a subscription in its topic, and else what old does
 abbrev pub FindsLess : Subscription → TopicIndex → TopicIndex → Type 0
-FindsLess s old new = AtEachTopic (λ scope event. handlers_found new scope event ≡ (if is_to scope event s then without_handler s (handlers_found old scope event) else handlers_found old scope event))
+FindsLess s old new = AtEachTopic (λ scope event. handlers_found new scope event
+    ≡ (if is_to scope event s then without_handler s (handlers_found old scope event)
+    else handlers_found old scope event))
 
 -- an index finds in each topic those who handle it
 abbrev pub IsIndexOf : TopicIndex → List Subscription → Type 0
@@ -65,11 +69,13 @@ IsIndexOf index ss = AtEachTopic (λ scope event. handlers_found index scope eve
 
 -- each event that has an entry has a handler
 abbrev pub AreHandled : Events → Type 0
-AreHandled events = (event : List ℕ) → IfSome (get_by_text events.by_event event) (λ handlers. 0 < length handlers.items)
+AreHandled events = (event : List ℕ)
+    → IfSome (get_by_text events.by_event event) (λ handlers. 0 < length handlers.items)
 
 -- the same, but maybe of one event
 abbrev pub AreHandledBut : List ℕ → Events → Type 0
-AreHandledBut but events = (event : List ℕ) → IfSome (get_by_text events.by_event event) (λ handlers. bytes_eq but event ≡ false → 0 < length handlers.items)
+AreHandledBut but events = (event : List ℕ)
+    → IfSome (get_by_text events.by_event event) (λ handlers. bytes_eq but event ≡ false → 0 < length handlers.items)
 
 -- some event has an entry
 abbrev pub HasEvents : Events → Type 0
@@ -85,4 +91,6 @@ IsTight index = (scope : List ℕ) → IfSome (get_by_text index.by_scope scope)
 
 -- the same, but maybe one scope has an entry without events
 abbrev pub IsTightBut : List ℕ → TopicIndex → Type 0
-IsTightBut but index = (scope : List ℕ) → IfSome (get_by_text index.by_scope scope) (λ events. AreHandled events × (bytes_eq but scope ≡ false → HasEvents events))
+IsTightBut but index = (scope : List ℕ)
+    → IfSome (get_by_text index.by_scope scope) (λ events. AreHandled events
+    × (bytes_eq but scope ≡ false → HasEvents events))

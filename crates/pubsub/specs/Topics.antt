@@ -44,12 +44,16 @@ without_subscriber object = filter (λ t. not (nat_eq t.object object))
 abbrev pub handlers_of : List ℕ → List ℕ → List Subscription → List Handler
 handlers_of scope event [] = []
 handlers_of scope event (s ∷ ss) =
-    if is_to scope event s then record { object = s.object; method = s.method } ∷ handlers_of scope event ss else handlers_of scope event ss
+    if is_to scope event s then record { object = s.object; method = s.method } ∷ handlers_of scope event ss
+    else handlers_of scope event ss
 
 -- what a subscribing answers, and what it makes of the topics
 abbrev pub Subscribes : Result Bool StoreRefusal → Subscription → List Subscription → List Subscription → Type 0
 Subscribes (Ok false) s old new = (is_subscribed s old ≡ true) × (new ≡ old)
-Subscribes (Ok true) s old new = (is_subscribed s old ≡ false) × (length old < most_subscriptions) × (new ≡ old ++ s ∷ [])
-Subscribes (Err (Full count)) s old new = (is_subscribed s old ≡ false) × (length old ≡ most_subscriptions) × (count ≡ length old) × (new ≡ old)
+Subscribes (Ok true) s old new = (is_subscribed s old ≡ false) × (length old < most_subscriptions)
+    × (new ≡ old ++ s ∷ [])
+Subscribes (Err (Full count)) s old new = (is_subscribed s old ≡ false) × (length old ≡ most_subscriptions)
+    × (count ≡ length old) × (new ≡ old)
 Subscribes (Err Spent) s old new = ⊥
-Subscribes (Err WantOfMemory) s old new = (is_subscribed s old ≡ false) × (length old < most_subscriptions) × (new ≡ old)
+Subscribes (Err WantOfMemory) s old new = (is_subscribed s old ≡ false) × (length old < most_subscriptions)
+    × (new ≡ old)

@@ -48,7 +48,9 @@ impl Events {
 
     /// Adds a handler behind those of its event. Without memory it is dropped, and each event has the handlers it had.
     pub fn add(&mut self, event: &str, handler: Handler) -> Result<(), WantOfMemory>
-        ensures ok { OnOk result ((e : List ℕ) → handlers_in self.new e ≡ (if bytes_eq event.now e then handlers_in self.old e ++ handler ∷ [] else handlers_in self.old e)) }
+        ensures ok { OnOk result ((e : List ℕ)
+            → handlers_in self.new e ≡ (if bytes_eq event.now e then handlers_in self.old e ++ handler ∷ []
+            else handlers_in self.old e)) }
         ensures err { OnErr result ((e : List ℕ) → handlers_in self.new e ≡ handlers_in self.old e) }
         ensures tight { OnOk result (AreHandled self.old → AreTight self.new) }
         ensures still { OnErr result (AreTight self.old → AreTight self.new) }
@@ -66,7 +68,9 @@ impl Events {
 
     /// Takes the handler of a subscription away from those of an event. Takes no memory.
     pub fn remove(&mut self, event: &str, subscription: &Subscription)
-        ensures found { (e : List ℕ) → handlers_in self.new e ≡ (if bytes_eq event.now e then without_handler subscription.now (handlers_in self.old e) else handlers_in self.old e) }
+        ensures found { (e : List ℕ)
+            → handlers_in self.new e ≡ (if bytes_eq event.now e then without_handler subscription.now
+            (handlers_in self.old e) else handlers_in self.old e) }
         ensures handled { AreHandled self.old → AreHandled self.new }
     {
         if let Some(handlers) = self.by_event.get_mut(event) {
@@ -91,7 +95,7 @@ impl Events {
         ensures handled { AreHandled self.new }
     {
         // `len` is called for its clause that no two entries have one name.
-        let _len = self.by_event.len();
+        let _len = self.by_event.len(); // for the prover
         self.by_event.retain(
             |_event: &String, handlers: &mut Vec<Handler>| -> bool
                 ensures left { handlers.new.items ≡ without_handlers_of object handlers.old.items }

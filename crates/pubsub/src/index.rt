@@ -101,14 +101,16 @@ impl TopicIndex {
 
     /// Takes the handlers of an object away from each topic. Takes no memory.
     pub fn remove_object(&mut self, object: u32)
-        ensures found { (scope : List ℕ) → (event : List ℕ) → handlers_at self.new scope event ≡ without_handlers_of object (handlers_at self.old scope event) }
+        ensures found { (scope : List ℕ) → (event : List ℕ)
+            → handlers_at self.new scope event ≡ without_handlers_of object (handlers_at self.old scope event) }
         ensures tight { IsTight self.new }
     {
         // `len` is called for its clause that no two entries have one name.
-        let _len = self.by_scope.len();
+        let _len = self.by_scope.len(); // for the prover
         self.by_scope.retain(
             |_scope: &String, events: &mut Events| -> bool
-                ensures left { (e : List ℕ) → handlers_in events.new e ≡ without_handlers_of object (handlers_in events.old e) }
+                ensures left { (e : List ℕ)
+                    → handlers_in events.new e ≡ without_handlers_of object (handlers_in events.old e) }
                 ensures gone { result ≡ false → (e : List ℕ) → handlers_in events.new e ≡ [] }
                 ensures kept { result ≡ true → AreTight events.new }
             {
@@ -125,6 +127,6 @@ fn name(text: &Text) -> &str
     ensures scalars { all_scalars text.now ≡ true }
 {
     // `bytes` is called for its clause that the characters are Unicode scalar values.
-    let _bytes = text.bytes();
+    let _bytes = text.bytes(); // for the prover
     text.as_str()
 }

@@ -25,8 +25,7 @@ use Rattle.join_sync.specs.declared.early.Early.{Early}
 use Rattle.join_sync.specs.Answers.{answer_frame}
 use Rattle.join_sync.specs.Batches.{most_pulled, next_cursor, next_frames}
 use Rattle.join_sync.specs.Requests.{IsJoin, act_on, first_request}
-use Rattle.system_plain.specs.ConnectionLine.{unread_frame}
-use Rattle.system_plain.specs.Steps.{answer_frames}
+use Rattle.system_plain.specs.Turn.{answer_frames, ends_connection, open_act, unread_frame}
 use Rattle.session_lock.specs.declared.knowledge.Item.{Item}
 use Rattle.session_lock.specs.declared.knowledge.Item.TheVariants.{Did, Void, Unkept}
 use Rattle.session_lock.specs.History.{after_item}
@@ -37,7 +36,7 @@ use Rattle.connection.specs.Exchanges.{Exchange, Answered, Unanswered, exchanges
 use Rattle.connection.specs.Phases.{TalkPhase, Opening, Beginning, Joining, Ticking, Pulling, Hearing, Taking, Asking, Sending, Leaving, Over, Wrong, TalkEvent, Hears, Reads, MakesRequest, MakesAt, Misses, Sends, Loses, FailsToSend, Wants, acted_phase, ending_phase, entered_phase, join_phase, opened_phase, read_phase, reply_phase, sending_phase, talk_step, talk_walk, telling_phase}
 use Rattle.connection.specs.Talk.{Talk}
 use Rattle.connection.proofs.Callers.{first_is_join}
-use Rattle.reflect_server.specs.Views.{opens_view, closes_view, ends_view, has_miss, holds}
+use Rattle.reflect_server.specs.Views.{opens_view, closes_view, has_miss, holds}
 use Rattle.reflect_server.proofs.HeldViews.{holds_behind}
 
 -- some call has no answer
@@ -102,7 +101,7 @@ own_opens cursor (Leave view joined now) given own v j = refl
 own_opens cursor (Offer view joined time bytes) given own v j = refl
 own_opens cursor (Pull after limit) given own v j = absurd own
 
-own_closes : (cursor : Cursor) (request : Request) (given : Reply) → IsOwn cursor request → ends_view given ≡ true → closes_view cursor.view cursor.joined (Answered request given) ≡ true
+own_closes : (cursor : Cursor) (request : Request) (given : Reply) → IsOwn cursor request → ends_connection given ≡ true → closes_view cursor.view cursor.joined (Answered request given) ≡ true
 own_closes cursor (Join view now want) given own ends = absurd own
 own_closes cursor (Send view joined number payload now) given own ends = both_true (both_true (eq-eqb view cursor.view own.0) (eq-eqb joined cursor.joined own.1)) ends
 own_closes cursor (Tick now) given own ends = absurd own
@@ -140,7 +139,7 @@ ending_held asked frames how wants out wanting = sending_held asked frames (Over
 nothing_held : IsOut []
 nothing_held v j is = absurd (cc (is))
 
-opened_held : (id : SessionId) (frame : ClientFrame) (now : ℕ) (r : Result Request Early) → first_request frame id now ≡ r → HeldIn [] (entered_phase frame r)
+opened_held : (id : SessionId) (frame : ClientFrame) (now : ℕ) (r : Result Request Early) → first_request frame id now ≡ r → HeldIn [] (entered_phase (open_act frame r))
 opened_held id frame now (Ok request) is = (refl, first_is_join frame id now request is)
 opened_held id frame now (Err early) is = (nothing_held, nothing_held, nothing_held)
 
@@ -199,7 +198,7 @@ answered_held asked cursor request given own mine = by_reply given
         let more = own_more cursor asked (Answered request r) (own_opens cursor request r mine) own in
         telling_held (asked ++ Answered request r ∷ []) cursor (answer_frames (answer_frame request r)) (Ticking cursor 0) more more
 
-    ends : (r : Reply) (how : Ended) → ends_view r ≡ true
+    ends : (r : Reply) (how : Ended) → ends_connection r ≡ true
         → HeldIn (asked ++ Answered request r ∷ []) (ending_phase (answer_frames (answer_frame request r)) how (Leaving cursor ended.WantOfMemory))
     ends r how is =
         ending_held (asked ++ Answered request r ∷ []) (answer_frames (answer_frame request r)) how (Leaving cursor ended.WantOfMemory)

@@ -23,8 +23,9 @@ use Rattle.reflector_core.specs.declared.keeper.CallFault.TheVariants as fault
 use Rattle.session_lock.specs.declared.knowledge.Item.{Item}
 use Rattle.session_lock.specs.declared.knowledge.Item.TheVariants.{Did, Void, Unkept}
 use Rattle.session_lock.specs.History.{after_item, play_from}
+use Rattle.system_plain.specs.Turn.{ends_connection}
 use Rattle.connection.specs.Exchanges.{Exchange, Answered, Unanswered, exchange_in, exchanges_from}
-use Rattle.reflect_server.specs.Views.{opens_view, closes_view, ends_view, holds_in, holds_on, opens_with}
+use Rattle.reflect_server.specs.Views.{opens_view, closes_view, holds_in, holds_on, opens_with}
 
 -- ---- tests
 
@@ -129,22 +130,22 @@ module _ (s : PlainSession) (v : ℕ) where
           other_kept (Leave view joined now) (record { session = append_entry s (stamp s.horizon now) view what.Exit; reply = Left (length s.log + 1) (stamp s.horizon now) }) (pushed_other s.log (next_entry s.log (stamp s.horizon now) view what.Exit) v (ap (λ (b : Bool). b && true) other))
           (λ _. ap (λ (b : Bool). b && (joined == current s.log v)) other) here
 
-  repeats_end : (payload : List ℕ) (at : Option Entry) (next : ℕ) → ends_view (repeats s payload at (Refused (Gap next))) ≡ false
+  repeats_end : (payload : List ℕ) (at : Option Entry) (next : ℕ) → ends_connection (repeats s payload at (Refused (Gap next))) ≡ false
   repeats_end payload None next = refl
   repeats_end payload (Some entry) next = by (bytes_eq (event_payload entry.what) payload)
     where
-      by : (b : Bool) → ends_view (if b then Again entry.seq entry.time else Refused (Differs entry.seq)) ≡ false
+      by : (b : Bool) → ends_connection (if b then Again entry.seq entry.time else Refused (Differs entry.seq)) ≡ false
       by true = refl
       by false = refl
 
   -- a Send that is not stale gives up nothing
-  sent_kept : (view joined number now : ℕ) (payload : List ℕ) (reply : Reply) → ends_view reply ≡ false
+  sent_kept : (view joined number now : ℕ) (payload : List ℕ) (reply : Reply) → ends_connection reply ≡ false
       → Stands s (Send view joined number payload now) v (record { session = s; reply = reply })
   sent_kept view joined number now payload reply stays =
       same_kept (Send view joined number payload now) reply
       (λ _. ap (λ (b : Bool). ((view == v) && (joined == current s.log v)) && b) stays ∙ and_never ((view == v) && (joined == current s.log v)))
 
-  offered_kept : (view joined time : ℕ) (bytes : List ℕ) (reply : Reply) → ends_view reply ≡ false
+  offered_kept : (view joined time : ℕ) (bytes : List ℕ) (reply : Reply) → ends_connection reply ≡ false
       → Stands s (Offer view joined time bytes) v (record { session = s; reply = reply })
   offered_kept view joined time bytes reply stays =
       same_kept (Offer view joined time bytes) reply

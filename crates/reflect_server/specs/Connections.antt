@@ -14,7 +14,7 @@ use Rattle.session_lock.specs.Numbers.{times}
 use Rattle.connection.specs.declared.ending.Ended.{Ended}
 use Rattle.connection.specs.Causes.{EndsExactly, IsCauseCounted}
 use Rattle.connection.specs.Exchanges.{exchanges_in}
-use Rattle.connection.specs.Talk.{Talk, LinkAccount, link_account}
+use Rattle.connection.specs.Talk.{Talk, LinkAccount}
 use Rattle.connection.specs.TalkServed.{IsTalkServed, IsToldWithin}
 use Rattle.reflect_server.specs.Opening.{BeginsWithLeaves}
 
@@ -28,7 +28,7 @@ pub record ServedConnection (L : Type 0) : Type 0 where
   pub ended : Ended
 
 abbrev pub account_in : {L : Type 0} → LinksTell L → L → LinkAccount
-account_in links link = link_account links.heard links.sent links.counts link
+account_in links link = record { heard = links.heard link; sent = links.sent link; counts = links.counts link }
 
 abbrev pub accepted_links : {L : Type 0} → List (ServedConnection L) → List L
 accepted_links connections = map (λ one. one.accepted) connections
@@ -44,7 +44,8 @@ ends_of connections = map (λ one. one.ended) connections
 
 -- The connection has its talk in the history, and its link tells just that it was heard and sent in it. It ended by what its caller was
 -- answered, or by what its link has counted.
-pub record HasTalk (gives : ℕ → Type 0) (id : SessionId) (opening : PlainSession) {L : Type 0} (links : LinksTell L) (history : List Item) (one : ServedConnection L) : Type 0 where
+pub record HasTalk (gives : ℕ → Type 0) (id : SessionId) (opening : PlainSession) {L : Type 0} (links : LinksTell L)
+    (history : List Item) (one : ServedConnection L) : Type 0 where
   pub talk : Talk gives id opening history one.caller one.heard one.sent one.ended
   pub heard : links.heard one.returned ≡ with_more (links.heard one.accepted) one.heard
   pub sent : links.sent one.returned ≡ with_more (links.sent one.accepted) one.sent
@@ -58,7 +59,8 @@ HaveOwnNumbers numbers = (n : ℕ) → times n numbers ≤ 1
 
 -- The history begins with the opening Leaves of one caller. After them each connection has its talk in it, with a caller of
 -- its own, and nobody else called.
-pub record IsHistoryOf (gives : ℕ → Type 0) (id : SessionId) (opening : PlainSession) {L : Type 0} (links : LinksTell L) (connections : List (ServedConnection L)) (opener : ℕ) (history : List Item) : Type 0 where
+pub record IsHistoryOf (gives : ℕ → Type 0) (id : SessionId) (opening : PlainSession) {L : Type 0} (links : LinksTell L)
+    (connections : List (ServedConnection L)) (opener : ℕ) (history : List Item) : Type 0 where
   pub leaves : BeginsWithLeaves gives opening opener history
   pub talks : AllByRecursion (HasTalk gives id opening links history) connections
   pub apart : HaveOwnNumbers (opener ∷ callers_of connections)

@@ -14,7 +14,8 @@ pub record KeeperTells : Type 1 where
   pub failed : Type 0
 
 -- what it holds covers the play of the history; it has failed where its faults have risen above the count that it began with
-abbrev pub keeper_tells : {K : Type 0} → (K → PlainSession → Type 0) → (K → Type 0) → (K → ℕ) → ℕ → PlainSession → K → KeeperTells
+abbrev pub keeper_tells : {K : Type 0} → (K → PlainSession → Type 0) → (K → Type 0) → (K → ℕ) → ℕ → PlainSession → K
+    → KeeperTells
 keeper_tells holds shut faults first opening keeper = record {
   keeps = λ history. KeepsPlay holds shut faults first opening history keeper;
   failed = Rose first (faults keeper);

@@ -37,19 +37,22 @@ pub record AreJustThoseHere (log : List Entry) (views : List (ℕ × ℕ)) : Typ
 
 -- the opener's Leave of the view by its Join, at a time that the clock may give; or its Void, where the Leave found no memory
 abbrev pub IsLeaveOf : (ℕ → Type 0) → ℕ → ℕ × ℕ → Item → Type 0
-IsLeaveOf gives opener one (Did who (Leave view joined now)) = (who ≡ opener) × (view ≡ one.0) × (joined ≡ one.1) × gives now
+IsLeaveOf gives opener one (Did who (Leave view joined now)) = (who ≡ opener) × (view ≡ one.0) × (joined ≡ one.1)
+    × gives now
 IsLeaveOf gives opener one (Void who) = who ≡ opener
 IsLeaveOf gives opener one item = ⊥
 
 -- one for each, in the same order
 abbrev pub AreLeavesOf : (ℕ → Type 0) → ℕ → List (ℕ × ℕ) → List Item → Type 0
 AreLeavesOf gives opener [] [] = Unit {0}
-AreLeavesOf gives opener (one ∷ rest) (item ∷ items) = IsLeaveOf gives opener one item × AreLeavesOf gives opener rest items
+AreLeavesOf gives opener (one ∷ rest) (item ∷ items) =
+    IsLeaveOf gives opener one item × AreLeavesOf gives opener rest items
 AreLeavesOf gives opener views items = ⊥
 
 -- The history begins with the opening Leaves: one item of the opener for each view that was here, in rising order. After
 -- them the opener has made no call.
-pub record BeginsWithLeaves (gives : ℕ → Type 0) (opening : PlainSession) (opener : ℕ) (history : List Item) : Type 0 where
+pub record BeginsWithLeaves (gives : ℕ → Type 0) (opening : PlainSession) (opener : ℕ)
+    (history : List Item) : Type 0 where
   pub views : List (ℕ × ℕ)
   pub here : AreHere opening.log views
   pub leaves : List Item

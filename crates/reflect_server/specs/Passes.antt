@@ -13,7 +13,8 @@ use Rattle.reflect_server.specs.Connections.{ServedConnection, HasTalk, callers_
 
 -- of the pass's callers only these have made calls
 abbrev pub HasCalledAs : List ℕ → PassState → Type 0
-HasCalledAs callers pass = (n : ℕ) → has n pass.callers ≡ true → has n callers ≡ false → calls_of (n ∷ []) pass.seen ≡ []
+HasCalledAs callers pass = (n : ℕ) → has n pass.callers ≡ true → has n callers ≡ false
+    → calls_of (n ∷ []) pass.seen ≡ []
 
 -- A pass of a shared session that has made no call. It has one caller, and no other number. It has seen at least this.
 pub record HasNotCalled (table : TableId) (began : PlainSession) (seen : List Item) (pass : PassState) : Type 0 where
@@ -39,7 +40,8 @@ pub record Keeps (before pass : PassState) : Type 0 where
 
 -- A pass that so many fresh passes were merged into, among them those that the connections were served by. These had made no call in what it
 -- had seen before. None of its other callers has made a call since.
-pub record Gathers (gives : ℕ → Type 0) (id : SessionId) {L : Type 0} (links : LinksTell L) (before : PassState) (count : ℕ) (connections : List (ServedConnection L)) (pass : PassState) : Type 0 where
+pub record Gathers (gives : ℕ → Type 0) (id : SessionId) {L : Type 0} (links : LinksTell L) (before : PassState)
+    (count : ℕ) (connections : List (ServedConnection L)) (pass : PassState) : Type 0 where
   pub session : pass.session ≡ before.session
   pub opening : pass.opening ≡ before.opening
   pub numbers : numbers_held pass ≡ numbers_held before + count

@@ -32,31 +32,37 @@ use Rattle.reflect_server.specs.declared.reflecting.Prepared.{Prepared}
 use Rattle.reflect_server.specs.declared.reflecting.Rooms.{Rooms}
 
 -- the links that the net gave were all given back, in the order in which they were accepted
-pub record ReturnsLinks {N L : Type 0} (tells : NetTells N L) (links : LinksTell L) (before now : N) (connections : List (ServedConnection L)) : Type 0 where
+pub record ReturnsLinks {N L : Type 0} (tells : NetTells N L) (links : LinksTell L) (before now : N)
+    (connections : List (ServedConnection L)) : Type 0 where
   pub coming : TakesAll (tells.coming before) (tells.coming now) (accepted_links connections)
   pub over : tells.over now ≡ with_more (tells.over before) (returned_links connections)
   pub lent : tells.lent now ≡ tells.lent before
   pub counts : tells.link_counts now ≡ with_links links.counts (tells.link_counts before) (returned_links connections)
 
 -- behind these calls, an accept for each link; where the net failed, one more was made; one at which memory was wanted may be missing
-abbrev pub AsksFor : {L : Type 0} → Option (List NetCall) → Option (List NetCall) → List NetCall → List L → Option NetFault → Type 0
+abbrev pub AsksFor : {L : Type 0} → Option (List NetCall) → Option (List NetCall) → List NetCall → List L
+    → Option NetFault → Type 0
 AsksFor before now calls links None = now ≡ with_more before (calls ++ accepts links)
 AsksFor before now calls links (Some Failed) = now ≡ with_more before (calls ++ accepts_more links)
-AsksFor before now calls links (Some fault.WantOfMemory) = (now ≡ with_more before (calls ++ accepts links)) ⊎ (now ≡ with_more before (calls ++ accepts_more links))
+AsksFor before now calls links (Some fault.WantOfMemory) =
+    (now ≡ with_more before (calls ++ accepts links)) ⊎ (now ≡ with_more before (calls ++ accepts_more links))
 
 -- The session is the play of the history from the opening session on, which was sound at each place. Its log has the events of the opening
 -- session and, after them, those that were answered Stamped, and no others.
 pub record Plays (opening : PlainSession) (history : List Item) (session : PlainSession) : Type 0 where
   pub play : session ≡ play_from opening history
   pub sound : IsSoundThrough opening history
-  pub events : TellsItsEvents opening.log (history_requests history) (replies_from opening (history_requests history)) session.log
+  pub events : TellsItsEvents opening.log (history_requests history)
+      (replies_from opening (history_requests history)) session.log
 
 -- a connection ended as Unkept only where a call of the keeper has failed
 abbrev pub EndUnkeptIf : {L : Type 0} → Type 0 → List (ServedConnection L) → Type 0
 EndUnkeptIf failed connections = AllByRecursion (λ one. one.ended ≡ ended.Unkept → failed) connections
 
 -- what was reflected, behind these first calls of the net: also where the net, or memory, gave no further link
-pub record HasReflected (gives : ℕ → Type 0) (id : SessionId) (opening : PlainSession) (kept : KeeperTells) {N L : Type 0} (tells : NetTells N L) (links : LinksTell L) (calls : List NetCall) (count : ℕ) (before now : N) (reflected : Reflected) : Type 0 where
+pub record HasReflected (gives : ℕ → Type 0) (id : SessionId) (opening : PlainSession) (kept : KeeperTells)
+    {N L : Type 0} (tells : NetTells N L) (links : LinksTell L) (calls : List NetCall) (count : ℕ) (before now : N)
+    (reflected : Reflected) : Type 0 where
   pub connections : List (ServedConnection L)
   pub history : List Item
   pub net : ReturnsLinks tells links before now connections
@@ -74,14 +80,16 @@ pub record HasReflected (gives : ℕ → Type 0) (id : SessionId) (opening : Pla
   pub unkept : EndUnkeptIf kept.failed connections
 
 -- the net did not listen, and the session was opened and no more
-pub record HasNotListened (gives : ℕ → Type 0) (opening : PlainSession) (kept : KeeperTells) {N L : Type 0} (tells : NetTells N L) (links : LinksTell L) (calls : List NetCall) (before now : N) : Type 0 where
+pub record HasNotListened (gives : ℕ → Type 0) (opening : PlainSession) (kept : KeeperTells) {N L : Type 0}
+    (tells : NetTells N L) (links : LinksTell L) (calls : List NetCall) (before now : N) : Type 0 where
   pub net : ReturnsLinks tells links before now []
   pub asked : tells.asked now ≡ with_more (tells.asked before) calls
   pub faults : Rose (tells.faults before) (tells.faults now)
   pub opened : HasOnlyOpened gives opening kept
 
 -- No memory was found before a link was accepted. The net was asked nothing, or these calls.
-pub record HasWanted (gives : ℕ → Type 0) (opening : PlainSession) (kept : KeeperTells) {N L : Type 0} (tells : NetTells N L) (links : LinksTell L) (calls : List NetCall) (before now : N) : Type 0 where
+pub record HasWanted (gives : ℕ → Type 0) (opening : PlainSession) (kept : KeeperTells) {N L : Type 0}
+    (tells : NetTells N L) (links : LinksTell L) (calls : List NetCall) (before now : N) : Type 0 where
   pub net : ReturnsLinks tells links before now []
   pub asked : (tells.asked now ≡ tells.asked before) ⊎ (tells.asked now ≡ with_more (tells.asked before) calls)
   pub faults : tells.faults before ≤ tells.faults now
@@ -89,18 +97,27 @@ pub record HasWanted (gives : ℕ → Type 0) (opening : PlainSession) (kept : K
 
 -- what comes of a session that has a keeper
 abbrev pub ReflectsKept
-    : (ℕ → Type 0) → SessionId → PlainSession → KeeperTells → {N L : Type 0} → NetTells N L → LinksTell L → List NetCall → ℕ → N → N → Result Reflected KeptFault → Type 0
-ReflectsKept gives id opening kept tells links calls count before now (Ok reflected) = HasReflected gives id opening kept tells links calls count before now reflected
-ReflectsKept gives id opening kept tells links calls count before now (Err kept_fault.ListenFault) = HasNotListened gives opening kept tells links calls before now
-ReflectsKept gives id opening kept tells links calls count before now (Err kept_fault.WantOfMemory) = HasWanted gives opening kept tells links calls before now
-ReflectsKept gives id opening kept tells links calls count before now (Err kept_fault.Unkept) = (now ≡ before) × HasNotOpened gives opening kept
+    : (ℕ → Type 0) → SessionId → PlainSession → KeeperTells → {N L : Type 0} → NetTells N L → LinksTell L → List NetCall
+    → ℕ → N → N → Result Reflected KeptFault → Type 0
+ReflectsKept gives id opening kept tells links calls count before now (Ok reflected) =
+    HasReflected gives id opening kept tells links calls count before now reflected
+ReflectsKept gives id opening kept tells links calls count before now (Err kept_fault.ListenFault) =
+    HasNotListened gives opening kept tells links calls before now
+ReflectsKept gives id opening kept tells links calls count before now (Err kept_fault.WantOfMemory) =
+    HasWanted gives opening kept tells links calls before now
+ReflectsKept gives id opening kept tells links calls count before now (Err kept_fault.Unkept) =
+    (now ≡ before) × HasNotOpened gives opening kept
 
 -- what comes of one that has none
 abbrev pub Reflects
-    : (ℕ → Type 0) → SessionId → PlainSession → {N L : Type 0} → NetTells N L → LinksTell L → List NetCall → ℕ → N → N → Result Reflected ServeFault → Type 0
-Reflects gives id opening tells links calls count before now (Ok reflected) = HasReflected gives id opening no_keeper tells links calls count before now reflected
-Reflects gives id opening tells links calls count before now (Err ListenFault) = HasNotListened gives opening no_keeper tells links calls before now
-Reflects gives id opening tells links calls count before now (Err WantOfMemory) = HasWanted gives opening no_keeper tells links calls before now
+    : (ℕ → Type 0) → SessionId → PlainSession → {N L : Type 0} → NetTells N L → LinksTell L → List NetCall → ℕ → N → N
+    → Result Reflected ServeFault → Type 0
+Reflects gives id opening tells links calls count before now (Ok reflected) =
+    HasReflected gives id opening no_keeper tells links calls count before now reflected
+Reflects gives id opening tells links calls count before now (Err ListenFault) =
+    HasNotListened gives opening no_keeper tells links calls before now
+Reflects gives id opening tells links calls count before now (Err WantOfMemory) =
+    HasWanted gives opening no_keeper tells links calls before now
 
 -- by why the net did not listen
 abbrev pub unheard : NetFault → KeptFault

@@ -35,10 +35,12 @@ abbrev pub accepts_more : {L : Type 0} → List L → List NetCall
 accepts_more links = accepts links ++ Accept ∷ []
 
 -- the calls that were made; one at which memory was wanted may be missing
-abbrev pub AsksAccepts : {L : Type 0} → Option (List NetCall) → Option (List NetCall) → List L → Option NetFault → Type 0
+abbrev pub AsksAccepts : {L : Type 0} → Option (List NetCall) → Option (List NetCall) → List L → Option NetFault
+    → Type 0
 AsksAccepts before now links None = now ≡ with_more before (accepts links)
 AsksAccepts before now links (Some Failed) = now ≡ with_more before (accepts_more links)
-AsksAccepts before now links (Some WantOfMemory) = (now ≡ with_more before (accepts links)) ⊎ (now ≡ with_more before (accepts_more links))
+AsksAccepts before now links (Some WantOfMemory) =
+    (now ≡ with_more before (accepts links)) ⊎ (now ≡ with_more before (accepts_more links))
 
 -- the count of faults rose where the net failed
 abbrev pub CountsStop : ℕ → ℕ → Option NetFault → Type 0
@@ -52,7 +54,8 @@ CountsLinks links count None = links ≡ count
 CountsLinks links count (Some fault) = links < count
 
 -- links were accepted one after the other, and are out
-pub record Accepts {N L : Type 0} (tells : NetTells N L) (before now : N) (links : List L) (stopped : Option NetFault) : Type 0 where
+pub record Accepts {N L : Type 0} (tells : NetTells N L) (before now : N) (links : List L)
+    (stopped : Option NetFault) : Type 0 where
   pub coming : TakesAll (tells.coming before) (tells.coming now) links
   pub over : tells.over now ≡ tells.over before
   pub asked : AsksAccepts (tells.asked before) (tells.asked now) links stopped
@@ -68,7 +71,8 @@ with_links counts sum (link ∷ links) = with_links counts (plus sum (counts lin
 -- ---- the links
 
 -- how a link is served by a fresh pass
-pub record Serves (gives : ℕ → Type 0) (id : SessionId) {L : Type 0} (links : LinksTell L) (before : PassState) (link : L) (pass : PassState) (one : ServedLink L) : Type 0 where
+pub record Serves (gives : ℕ → Type 0) (id : SessionId) {L : Type 0} (links : LinksTell L) (before : PassState)
+    (link : L) (pass : PassState) (one : ServedLink L) : Type 0 where
   pub kept : pass ≡ record before { seen = pass.seen }
   pub talk : HasTalked gives id pass (account_in links link) (account_in links one.link) one.ended
   pub exactly : EndsExactly one.ended (exchanges_in pass.opening pass.seen (caller pass))
@@ -89,7 +93,8 @@ abbrev pub ended_of : {L : Type 0} → List (ServedLink L) → List Ended
 ended_of served = map (λ one. one.ended) (reverse served)
 
 -- What comes of accepting so many links: those that were accepted, in order, each served to its end. Their passes are in the lead pass.
-pub record GoesRound (gives : ℕ → Type 0) (id : SessionId) {N L K : Type 0} (tells : NetTells N L) (links : LinksTell L) (count : ℕ) (before now : Round N L K) : Type 0 where
+pub record GoesRound (gives : ℕ → Type 0) (id : SessionId) {N L K : Type 0} (tells : NetTells N L) (links : LinksTell L)
+    (count : ℕ) (before now : Round N L K) : Type 0 where
   pub connections : List (ServedConnection L)
   pub net : Accepts tells before.net now.net (accepted_links connections) now.stopped
   pub passes : Gathers gives id links before.lead count connections now.lead

@@ -4,12 +4,11 @@ use Rattle.tea_base.specs.declared.entry.Entry.{Entry}
 use Rattle.tea_base.specs.Readings.{current, is_here}
 use Rattle.reflector_core.specs.PlainSession.{PlainSession}
 use Rattle.reflector_core.specs.declared.request.Request.TheVariants.{Join, Send, Leave, Offer}
-use Rattle.reflector_core.specs.declared.request.Reply.{Reply}
-use Rattle.reflector_core.specs.declared.request.Reply.TheVariants.{Joined, Left, Refused}
-use Rattle.reflector_core.specs.declared.request.Refusal.TheVariants.{Stale}
+use Rattle.reflector_core.specs.declared.request.Reply.TheVariants.{Joined}
 use Rattle.session_lock.specs.declared.knowledge.Item.{Item}
 use Rattle.session_lock.specs.declared.knowledge.Item.TheVariants.{Did, Void, Unkept}
 use Rattle.session_lock.specs.History.{has}
+use Rattle.system_plain.specs.Turn.{ends_connection}
 use Rattle.connection.specs.Exchanges.{Exchange, Answered, exchanges_in}
 
 -- the exchange is a Join of the view that got this seq
@@ -17,23 +16,19 @@ abbrev pub opens_view : ℕ → ℕ → Exchange → Bool
 opens_view view joined (Answered (Join v now want) (Joined seq time last from base)) = (v == view) && (seq == joined)
 opens_view view joined other = false
 
--- the reply says that the caller holds its view no more
-abbrev pub ends_view : Reply → Bool
-ends_view (Left seq time) = true
-ends_view (Refused (Stale current)) = true
-ends_view other = false
-
 -- the exchange gives up the view that was joined so, or tells that it is gone
 abbrev pub closes_view : ℕ → ℕ → Exchange → Bool
 closes_view view joined (Answered (Leave v j now) given) = (v == view) && (j == joined)
-closes_view view joined (Answered (Send v j number payload now) given) = ((v == view) && (j == joined)) && ends_view given
-closes_view view joined (Answered (Offer v j time bytes) given) = ((v == view) && (j == joined)) && ends_view given
+closes_view view joined (Answered (Send v j number payload now) given) =
+    ((v == view) && (j == joined)) && ends_connection given
+closes_view view joined (Answered (Offer v j time bytes) given) = ((v == view) && (j == joined)) && ends_connection given
 closes_view view joined other = false
 
 -- the view is held that was joined so
 abbrev pub holds_on : ℕ → ℕ → Bool → List Exchange → Bool
 holds_on view joined held [] = held
-holds_on view joined held (exchange ∷ rest) = holds_on view joined (opens_view view joined exchange || (held && not (closes_view view joined exchange))) rest
+holds_on view joined held (exchange ∷ rest) =
+    holds_on view joined (opens_view view joined exchange || (held && not (closes_view view joined exchange))) rest
 
 abbrev pub holds : ℕ → ℕ → List Exchange → Bool
 holds view joined asked = holds_on view joined false asked
@@ -58,4 +53,5 @@ holds_in opening opener history caller view joined =
 abbrev pub StaysByMiss : PlainSession → ℕ → List ℕ → List Item → List Entry → Type 0
 StaysByMiss opening opener callers history log =
     (view : ℕ) → is_here log view ≡ true
-    → (caller : ℕ) × (has caller (opener ∷ callers) ≡ true) × (holds_in opening opener history caller view (current log view) ≡ true) × (has_miss caller history ≡ true)
+    → (caller : ℕ) × (has caller (opener ∷ callers) ≡ true)
+    × (holds_in opening opener history caller view (current log view) ≡ true) × (has_miss caller history ≡ true)

@@ -37,7 +37,7 @@ pub struct Round<N: Drop, L: Link + Drop, K: Keeper> {
 
 /// What each thread is given. It asks at the times of the server's clock plus `since`.
 #[derive(Drop)]
-pub struct Post<'a, C: Clock, G: Gate, R: Wait, K: Keeper> {
+pub struct Service<'a, C: Clock, G: Gate, R: Wait, K: Keeper> {
     pub rt: &'a R,
     pub alloc: Global,
     pub shared: &'a SharedSession<TrustAll, K>,
@@ -47,25 +47,26 @@ pub struct Post<'a, C: Clock, G: Gate, R: Wait, K: Keeper> {
 
 /// Serves one link, once the gate is passed.
 fn serve_one<L: Link + Drop, C: Clock, G: Gate, R: Wait, K: Keeper>(
-    post: &Post<'_, C, G, R, K>,
+    service: &Service<'_, C, G, R, K>,
     mut pass: Pass<K>,
     mut link: L,
     worker: u32,
 ) -> (Pass<K>, ServedLink<L>)
-    requires session { pass.session ≡ post.now.shared.now.session }
+    requires session { pass.session ≡ service.now.shared.now.session }
     requires fresh { calls_of (caller pass ∷ []) pass.seen ≡ [] }
-    ensures { Serves (gives_later (C.gives post.now.server.now.clock.now) post.now.since) post.now.server.now.id (links_tell L.coming L.heard L.sent L.counts) pass link result.0 result.1 }
+    ensures { Serves (gives_later (C.gives service.now.server.now.clock.now) service.now.since)
+        service.now.server.now.id (links_tell L.Link) pass link result.0 result.1 }
 {
-    let server = post.server;
+    let server = service.server;
     let clock = LaterClock {
         clock: server.clock,
-        since: post.since,
+        since: service.since,
     };
     server.gate.pass(worker, 1);
     let ended = serve_connection(
-        post.rt,
-        post.alloc,
-        post.shared,
+        service.rt,
+        service.alloc,
+        service.shared,
         &mut pass,
         server.id,
         &mut link,
@@ -122,46 +123,50 @@ pub fn accept_all<
     R: Threads + Wait + Sync,
     K: Keeper + Send,
 >(
-    post: &Post<'_, C, G, R, K>,
+    service: &Service<'_, C, G, R, K>,
     mut round: Round<N, N::Conn, K>,
     mut passes: Vec<Pass<K>>,
     worker: u32,
 ) -> Round<N, N::Conn, K>
-    requires session { round.lead.session ≡ post.now.shared.now.session }
+    requires session { round.lead.session ≡ service.now.shared.now.session }
     requires lead { Keeps round.lead round.lead }
     requires passes { All (IsFresh round.lead) passes.items }
     requires few { vec_len passes + worker < 2 ^ 32 }
     requires room { vec_len passes ≤ vec_capacity round.served }
     requires begins { (round.served.items ≡ []) × (round.stopped ≡ None) }
     ensures room { vec_capacity result.served ≡ vec_capacity round.served }
-    ensures round { GoesRound (gives_later (C.gives post.now.server.now.clock.now) post.now.since) post.now.server.now.id
-        (net_tells N.coming N.over N.asked N.faults N.lent N.link_counts) (links_tell N.Conn.coming N.Conn.heard N.Conn.sent N.Conn.counts)
-        (vec_len passes) round result }
+    ensures round { GoesRound (gives_later (C.gives service.now.server.now.clock.now) service.now.since)
+        service.now.server.now.id (net_tells N.Net) (links_tell N.Conn.Link) (vec_len passes) round result }
 {
     if passes.is_empty() {
         return round;
     }
     let link = match round.net.accept() {
         Ok(link) => link,
-        Err(fault) => return stop(post.shared, round, passes, fault),
+        Err(fault) => return stop(service.shared, round, passes, fault),
     };
     let Some(pass) = passes.pop() else {
         unreachable!()
     };
     let ((pass, one), round) = join(
-        post.rt,
+        service.rt,
         || -> (Pass<K>, ServedLink<N::Conn>)
-            requires { IsSync R.row × (pass.session ≡ post.now.shared.now.session) × (calls_of (caller pass ∷ []) pass.seen ≡ []) }
-            ensures { Serves (gives_later (C.gives post.entry.now.server.now.clock.now) post.entry.now.since) post.entry.now.server.now.id (links_tell N.Conn.coming N.Conn.heard N.Conn.sent N.Conn.counts) pass link result.0 result.1 }
-        { serve_one(post, pass, link, worker) },
+            requires { IsSync R.row × (pass.session ≡ service.now.shared.now.session)
+                × (calls_of (caller pass ∷ []) pass.seen ≡ []) }
+            ensures { Serves (gives_later (C.gives service.entry.now.server.now.clock.now) service.entry.now.since)
+                service.entry.now.server.now.id (links_tell N.Conn.Link) pass link result.0 result.1 }
+        { serve_one(service, pass, link, worker) },
         || -> Round<N, N::Conn, K>
-            requires { IsSync R.row × (round.lead.session ≡ post.now.shared.now.session) × Keeps round.lead round.lead × All (IsFresh round.lead) passes.items
-                × (vec_len passes + worker + 1 < 2 ^ 32) × (vec_len passes ≤ vec_capacity round.served) × (round.served.items ≡ []) × (round.stopped ≡ None) }
+            requires { IsSync R.row × (round.lead.session ≡ service.now.shared.now.session)
+                × Keeps round.lead round.lead × All (IsFresh round.lead) passes.items
+                × (vec_len passes + worker + 1 < 2 ^ 32) × (vec_len passes ≤ vec_capacity round.served)
+                × (round.served.items ≡ []) × (round.stopped ≡ None) }
             ensures room { vec_capacity result.served ≡ vec_capacity round.served }
-            ensures round { GoesRound (gives_later (C.gives post.entry.now.server.now.clock.now) post.entry.now.since) post.entry.now.server.now.id
-                (net_tells N.coming N.over N.asked N.faults N.lent N.link_counts) (links_tell N.Conn.coming N.Conn.heard N.Conn.sent N.Conn.counts)
+            ensures round { GoesRound (gives_later
+                (C.gives service.entry.now.server.now.clock.now) service.entry.now.since)
+                service.entry.now.server.now.id (net_tells N.Net) (links_tell N.Conn.Link)
                 (vec_len passes) round result }
-        { accept_all(post, round, passes, worker + 1) },
+        { accept_all(service, round, passes, worker + 1) },
     );
-    with_one(post.shared, round, pass, one)
+    with_one(service.shared, round, pass, one)
 }

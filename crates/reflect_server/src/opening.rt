@@ -85,10 +85,7 @@ fn leave_all<C: Clock, R: Wait, K: Keeper>(
     ensures stopped { OnErr result (HasStopped (C.gives clock.now) views.now pass.old pass.new) }
 {
     for one in views {
-        match leave_one(rt, shared, pass, clock, *one) {
-            Ok(()) => {}
-            Err(unkept) => return Err(unkept),
-        }
+        leave_one(rt, shared, pass, clock, *one)?;
     }
     Ok(())
 }
@@ -155,7 +152,8 @@ pub fn open_session<C: Clock, R: Wait, K: Keeper>(
     ensures numbers { IfOk result (λ opened. numbers_held opened.1 ≡ all_numbers) }
     ensures spare { IfOk result (λ opened. most_connections ≤ count_of opened.1.spare) }
     ensures unopened { IfErr result (λ unopened. IsUnopened (C.gives clock.now) opening.session.plain
-        (keeper_tells K.holds K.shut K.faults (K.faults opening.keeper) opening.session.plain unopened.keeper) unopened.fault) }
+        (keeper_tells K.holds K.shut K.faults (K.faults opening.keeper) opening.session.plain unopened.keeper)
+        unopened.fault) }
 {
     let Opening { session, keeper } = opening;
     let Ok(views) = views_here(alloc, &session) else {

@@ -11,7 +11,7 @@ ghost use Rattle.reflect_server.specs.Keeping.{IsUnopened, keeper_tells};
 ghost use Rattle.reflect_server.specs.Reflects.{HasRooms, IsPrepared, Reflects, ReflectsKept, unheard, unopened_fault, with_kept_fault};
 ghost use Rattle.reflect_server.specs.declared.reflection.KeptFault.TheVariants as kept_fault;
 
-use crate::accepting::{Post, Round, ServedLink, accept_all};
+use crate::accepting::{Round, ServedLink, Service, accept_all};
 use crate::opening::{LaterClock, Unopened, close_opened, open_session};
 use crate::passes::split_all;
 use crate::reflection::{KeptFault, Opening, Reflected, ServeFault, Server};
@@ -70,8 +70,10 @@ fn prepare<L: Link + Drop, C: Clock, G: Gate, R: Wait, K: Keeper>(
     ensures faults { IfOk result (λ prepared. prepared.shared.faults ≡ K.faults opening.keeper) }
     ensures prepared { IfOk result (λ prepared.
         IsPrepared (gives_later (C.gives server.now.clock.now) prepared.since) server.now.connections prepared) }
-    ensures unopened { IfErr result (λ unopened. IsUnopened (gives_later (C.gives server.now.clock.now) opening.session.plain.horizon) opening.session.plain
-        (keeper_tells K.holds K.shut K.faults (K.faults opening.keeper) opening.session.plain unopened.keeper) unopened.fault) }
+    ensures unopened { IfErr result (λ unopened.
+        IsUnopened (gives_later (C.gives server.now.clock.now) opening.session.plain.horizon) opening.session.plain
+        (keeper_tells K.holds K.shut K.faults (K.faults opening.keeper) opening.session.plain unopened.keeper)
+        unopened.fault) }
 {
     let since = opening.session.horizon();
     let Ok(rooms) = make_rooms(alloc, server.connections) else {
@@ -82,15 +84,13 @@ fn prepare<L: Link + Drop, C: Clock, G: Gate, R: Wait, K: Keeper>(
         clock: server.clock,
         since,
     };
-    match open_session(rt, alloc, server.id, opening, &clock) {
-        Ok((shared, lead)) => Ok(Prepared {
-            since,
-            shared,
-            lead,
-            rooms,
-        }),
-        Err(unopened) => Err(unopened),
-    }
+    let (shared, lead) = open_session(rt, alloc, server.id, opening, &clock)?;
+    Ok(Prepared {
+        since,
+        shared,
+        lead,
+        rooms,
+    })
 }
 
 /// Gives the links back to their net, the last one first.
@@ -131,11 +131,12 @@ fn serve_all<
     prepared: Prepared<N::Conn, K>,
 ) -> (N, K, Reflected)
     requires connections { server.now.connections ≤ most_connections }
-    requires prepared { IsPrepared (gives_later (C.gives server.now.clock.now) prepared.since) server.now.connections prepared }
-    ensures reflects { ReflectsKept (gives_later (C.gives server.now.clock.now) prepared.since) server.now.id prepared.lead.opening
-        (keeper_tells K.holds K.shut K.faults prepared.shared.faults prepared.lead.opening result.1)
-        (net_tells N.coming N.over N.asked N.faults N.lent N.link_counts) (links_tell N.Conn.coming N.Conn.heard N.Conn.sent N.Conn.counts)
-        [] server.now.connections net result.0 (Ok result.2) }
+    requires prepared { IsPrepared (gives_later (C.gives server.now.clock.now) prepared.since) server.now.connections
+        prepared }
+    ensures reflects { ReflectsKept
+        (gives_later (C.gives server.now.clock.now) prepared.since) server.now.id prepared.lead.opening
+        (keeper_tells K.holds K.shut K.faults prepared.shared.faults prepared.lead.opening result.1) (net_tells N.Net)
+        (links_tell N.Conn.Link) [] server.now.connections net result.0 (Ok result.2) }
 {
     let Prepared {
         since,
@@ -148,7 +149,7 @@ fn serve_all<
         },
     } = prepared;
     let passes = split_all(&shared, &mut lead, passes, server.connections);
-    let post = Post {
+    let service = Service {
         rt,
         alloc,
         shared: &shared,
@@ -166,7 +167,7 @@ fn serve_all<
         lead,
         served,
         stopped,
-    } = accept_all(&post, round, passes, 0);
+    } = accept_all(&service, round, passes, 0);
     let ends = List::from_vec(give_back(&mut net, served, ends));
     let (session, keeper) = shared.close_kept(lead);
     let reflected = Reflected {
@@ -217,9 +218,10 @@ pub fn reflect_kept<
     requires covered { IsCovered (K.holds opening.keeper) opening.session.plain.kept opening.session.plain }
     requires written { IsCovered (K.writes opening.keeper) opening.session.plain.kept opening.session.plain }
     requires unshut { K.shut opening.keeper → ⊥ }
-    ensures { ReflectsKept (gives_later (C.gives server.now.clock.now) opening.session.plain.horizon) server.now.id opening.session.plain
+    ensures { ReflectsKept (gives_later (C.gives server.now.clock.now) opening.session.plain.horizon) server.now.id
+        opening.session.plain
         (keeper_tells K.holds K.shut K.faults (K.faults opening.keeper) opening.session.plain result.1)
-        (net_tells N.coming N.over N.asked N.faults N.lent N.link_counts) (links_tell N.Conn.coming N.Conn.heard N.Conn.sent N.Conn.counts)
+        (net_tells N.Net) (links_tell N.Conn.Link)
         (Listen server.now.address.now ∷ []) server.now.connections net result.0 result.2 }
 {
     let prepared = match prepare(rt, alloc, server, opening) {
@@ -261,11 +263,11 @@ pub fn reflect<N: Net + Drop, C: Clock + Sync, G: Gate + Sync, R: Threads + Wait
 ) -> (N, Result<Reflected, ServeFault>)
     requires { (1 ≤ server.now.connections) × (server.now.connections ≤ most_connections) }
     ensures { Reflects (gives_later (C.gives server.now.clock.now) opening.plain.horizon) server.now.id opening.plain
-        (net_tells N.coming N.over N.asked N.faults N.lent N.link_counts) (links_tell N.Conn.coming N.Conn.heard N.Conn.sent N.Conn.counts)
+        (net_tells N.Net) (links_tell N.Conn.Link)
         (Listen server.now.address.now ∷ []) server.now.connections net result.0 result.1 }
 {
     // tells that the session is sound, so that it covers itself
-    let _horizon = opening.horizon();
+    let _horizon = opening.horizon(); // for the prover
     let opening = Opening {
         session: opening,
         keeper: NoKeeper,

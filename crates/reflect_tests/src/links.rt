@@ -7,6 +7,7 @@ use tea_base::{Blob, Numbers, WantOfMemory, push};
 use tea_io::{Blobs, MemLink};
 use wire_frames::{JOIN_TAG, LEAVE_TAG, SEND_TAG};
 
+/// The frame LEAVE.
 pub const LEAVE: &[u8] = &[LEAVE_TAG];
 
 /// The first event, without a payload.

@@ -54,12 +54,14 @@ pub record HoldsReached (after : PlainSession → Type 0) (held : PlainSession) 
 -- the same, if at this time there is time left for the Exit of each view that is here
 abbrev pub HoldsTick : (PlainSession → Type 0) → (PlainSession → Type 0) → ℕ → Type 0
 HoldsTick before after time =
-    (held : PlainSession) → before held → IsSoundSession held → time + here_count held.log < time_limit → HoldsReached after held time
+    (held : PlainSession) → before held → IsSoundSession held → time + here_count held.log < time_limit
+    → HoldsReached after held time
 
 -- what was held is held, with this snapshot or without it
 abbrev pub HoldsSnapshot : (PlainSession → Type 0) → (PlainSession → Type 0) → ℕ → List ℕ → Type 0
 HoldsSnapshot before after time bytes =
-    (held : PlainSession) → before held → IsSoundSession held → time ≤ held.horizon → after held ⊎ after (with_snapshot held time bytes)
+    (held : PlainSession) → before held → IsSoundSession held → time ≤ held.horizon → after held
+    ⊎ after (with_snapshot held time bytes)
 
 -- what was held is held
 abbrev pub HoldsStill : (PlainSession → Type 0) → (PlainSession → Type 0) → Type 0
@@ -72,7 +74,8 @@ pub record ShutsByFault (shut_old shut_new : Type 0) (faults_old faults_new : �
   pub shuts : shut_new → shut_old ⊎ Rose faults_old faults_new
 
 -- each call of a keeper that is shut is Unkept, and a keeper that says so is shut from then on
-pub record KeepCause {T : Type 0} (shut_old shut_new : Type 0) (faults_old faults_new : ℕ) (result : Result T Unkept) : Type 0 where
+pub record KeepCause {T : Type 0} (shut_old shut_new : Type 0) (faults_old faults_new : ℕ)
+    (result : Result T Unkept) : Type 0 where
   pub kept : OnOk result (shut_old → ⊥)
   pub unkept : OnErr result shut_new
   pub shuts : ShutsByFault shut_old shut_new faults_old faults_new
@@ -102,8 +105,10 @@ HasSettledAll settled_new shut_old = (settled_new ≡ true) × (shut_old → ⊥
 
 -- What was written and covered the session as it was covers it as it is, unless a call failed. What was held is held, or all is settled; and so
 -- it is where another snapshot is kept. A keeper is shut by a fault alone, and the session of one that is shut does not change.
-pub record KeepsPace {K : Type 0} (holds writes : K → PlainSession → Type 0) (settled : K → Bool) (shut : K → Type 0) (faults : K → ℕ) (old new : K) (before after : PlainSession) : Type 0 where
-  pub written : (held : PlainSession) → writes old held → Covers before held → (shut new → ⊥) → IsCovered (writes new) held.kept after
+pub record KeepsPace {K : Type 0} (holds writes : K → PlainSession → Type 0) (settled : K → Bool) (shut : K → Type 0)
+    (faults : K → ℕ) (old new : K) (before after : PlainSession) : Type 0 where
+  pub written : (held : PlainSession) → writes old held → Covers before held → (shut new → ⊥)
+      → IsCovered (writes new) held.kept after
   pub held : HoldsStill (holds old) (holds new) ⊎ HasSettledAll (settled new) (shut old)
   pub kept : (after.kept ≡ before.kept) ⊎ HasSettledAll (settled new) (shut old)
   pub shuts : ShutsByFault (shut old) (shut new) (faults old) (faults new)

@@ -51,14 +51,17 @@ stamped_event_of (Pull after limit) reply = []
 abbrev pub stamped_events : List Request → List Reply → List Entry
 stamped_events [] replies = []
 stamped_events (request ∷ requests) [] = []
-stamped_events (request ∷ requests) (reply ∷ replies) = stamped_event_of request reply ++ stamped_events requests replies
+stamped_events (request ∷ requests) (reply ∷ replies) =
+    stamped_event_of request reply ++ stamped_events requests replies
 
 -- What a log has of the requests that were answered, where the session began with this log. It is legal, and its times
 -- rise. Its Events are those of the log that it began with, and after them those that were answered Stamped, each once and
 -- in order. So are those of each view, which it numbered 1, 2, 3 and so on.
-pub record TellsItsEvents (opening : List Entry) (requests : List Request) (replies : List Reply) (log : List Entry) : Type 0 where
+pub record TellsItsEvents (opening : List Entry) (requests : List Request) (replies : List Reply)
+    (log : List Entry) : Type 0 where
   pub legal : IsLegal log
   pub times : TimesRise log
-  pub senders : (view : ℕ) → view_events log view ≡ filter (λ entry. entry.view == view) (events opening ++ stamped_events requests replies)
+  pub senders : (view : ℕ) → view_events log view
+      ≡ filter (λ entry. entry.view == view) (events opening ++ stamped_events requests replies)
   pub events : events log ≡ events opening ++ stamped_events requests replies
   pub numbers : EachCountsItsEvents log

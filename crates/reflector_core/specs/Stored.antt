@@ -27,4 +27,5 @@ stored_of s = plain_of s.log s.horizon (kept_of s.kept)
 abbrev pub IsNextHere : List Entry → ℕ → Option (ℕ × ℕ) → Type 0
 IsNextHere log above None = (view : ℕ) → above < view → is_here log view ≡ false
 IsNextHere log above (Some next) =
-    (above < next.0) × (is_here log next.0 ≡ true) × (next.1 ≡ current log next.0) × ((other : ℕ) → above < other → other < next.0 → is_here log other ≡ false)
+    (above < next.0) × (is_here log next.0 ≡ true) × (next.1 ≡ current log next.0)
+    × ((other : ℕ) → above < other → other < next.0 → is_here log other ≡ false)

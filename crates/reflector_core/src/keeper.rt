@@ -60,7 +60,8 @@ pub trait Keeper: Drop {
     /// Writes one more entry. `time` is a TeaTime in microseconds.
     fn keep_entry(&mut self, time: u64, view: u32, what: LentWhat<'_>) -> Result<(), Unkept>
         requires { payload_len (lent_what what) ≤ most_payload }
-        ensures written { OnOk result (HoldsEntry (writes self.old) (writes self.new) time view (lent_what what.entry)) }
+        ensures written { OnOk result
+            (HoldsEntry (writes self.old) (writes self.new) time view (lent_what what.entry)) }
         ensures held { HoldsStill (holds self.old) (holds self.new) }
         ensures cause { KeepCause (shut self.old) (shut self.new) (faults self.old) (faults self.new) result };
 

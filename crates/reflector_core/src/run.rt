@@ -22,7 +22,7 @@ pub fn play(
         TellsItsEvents opening.plain.log requests.now played.1 played.0.plain.log) }
 {
     // tells that the opening session is sound
-    let _horizon = opening.horizon();
+    let _horizon = opening.horizon(); // for the prover
     let mut session = opening;
     let mut replies = Replies::new(alloc);
     for request in requests {

@@ -184,7 +184,7 @@ impl Session {
             },
         };
         // opens the session, whose invariant is the clause `sound`
-        let _ = &self.horizon;
+        let _ = &self.horizon; // for the prover
         reply
     }
 }

@@ -1,14 +1,16 @@
 -- What is seen of a replica's world, call by call.
-use Rattle.std.proofs.Common.{◌≡◌, ℕ, Bool, true, false, nat_le, nat_lt, List, Some, Result, Ok, Err, refl, sym, ap, subst, ◌∙◌}
+use Rattle.std.proofs.Common.{◌≡◌, ◌≤◌, ◌<◌, ℕ, Bool, true, false, nat_le, nat_lt, List, length, Some, Result, Ok, Err, refl, sym, ap, subst, ◌∙◌}
 use Rattle.std.specs.Prelude.{⊤}
 use Rattle.tea_base.specs.declared.entry.Entry.{Entry}
+use Rattle.tea_base.specs.Limits.{most_snapshot, time_limit}
 use Rattle.model_solved.specs.Founding.{CheckedView, checked_tree, founding_of, IsFounding}
 use Rattle.world_plain.specs.Messages.{PlainOutgoing}
 use Rattle.world_plain.specs.Valid.{Valid}
 use Rattle.world_plain.specs.World.{WorldRecord}
+use Rattle.world_plain.specs.declared.world.PlainWorld.{PlainWorld}
 use Rattle.world.specs.declared.fault.WorldFault.{WorldFault}
 use Rattle.world.specs.declared.fault.WorldFault.TheVariants as fault
-use Rattle.world.specs.View.{WorldView, IsSoundWorld, MovesOn}
+use Rattle.world.specs.View.{WorldView, Copies, IsSoundWorld, MovesOn}
 use Rattle.world.specs.Worlds.{Scene, field_counts, first_scene, external, advance, take_up}
 use Rattle.world.proofs.ByWorld.{advance-by_world, external-by_world}
 use Rattle.world.proofs.Replays.{first-id, first-begins, external-id, advance-id}
@@ -17,7 +19,7 @@ use Rattle.snapshot_codec.specs.Answer.{IsSnapshot, IsWorld, snapshot_world}
 use Rattle.snapshot_codec.specs.Spelling.{world_spelling}
 use Rattle.snapshot_codec.proofs.Snapshots.{snapshot-is}
 use Rattle.replica.specs.RealWorlds.{worlds}
-use Rattle.replica.specs.SessionWorlds.{unless_broken, session_view, IsOfSession, IsSoundSessionWorld, GoesOn, Snaps}
+use Rattle.replica.specs.SessionWorlds.{unless_broken, session_view, IsOfSession, IsSoundSessionWorld, CopiesWorld, GoesOn, Snaps}
 use Rattle.replica.proofs.WorldTests.{own-passes}
 
 whole-is : (first w : WorldRecord) (broken : Bool) → broken ≡ false → unless_broken first broken w ≡ w
@@ -112,6 +114,10 @@ sound-seen program id w is sound =
       quiet = sound.quiet;
     }
 
+-- it has a time of TeaTime
+pub own-timely : (w : WorldView) → IsSoundWorld w → w.broken ≡ false → w.scene.world.time < time_limit
+own-timely w sound e = (sound.valid e).clock.time_fits
+
 -- the first world is at time 0
 pub broken-time : (program : CheckedView) (id : List ℕ) (w : WorldView) → IsOfSession program id w → w.broken ≡ true → 0 ≡ (session_view id w).world.time
 broken-time program id w is e =
@@ -120,9 +126,15 @@ broken-time program id w is e =
 
 -- ---- snapshots
 
+pub copies-seen : (result : Result PlainWorld WorldFault) (id : List ℕ) (w : WorldView) → Copies result w → CopiesWorld result (session_view id w)
+copies-seen (Ok plain) id w copies = (copies.0, copies.1 ∙ sym (whole-seen id w copies.0))
+copies-seen (Err fault.Broken) id w broken = broken
+copies-seen (Err (fault.Back time)) id w never = never
+copies-seen (Err fault.WantOfMemory) id w whole = whole
+
 pub snaps-seen : (program : CheckedView) (id bytes : List ℕ) (w : WorldView) (world : WorldRecord) → IsOfSession program id w → w.broken ≡ false → world ≡ w.scene.world → Valid (field_counts (checked_tree w.program)) world → IsWorld world → bytes ≡ world_spelling world
-    → Snaps (Ok bytes) (session_view id w)
-snaps-seen program id bytes w world is whole same valid fits spelled =
+    → length bytes ≤ most_snapshot → Snaps (Ok bytes) (session_view id w)
+snaps-seen program id bytes w world is whole same valid fits spelled short =
     let counts = field_counts (checked_tree w.program) in
     let seen : world ≡ (session_view id w).world = same ∙ sym (whole-seen id w whole) in
     let snapshot : IsSnapshot counts id bytes world = record { world = fits; valid = valid; session = ap (λ (x : WorldRecord). x.id) same ∙ is.session whole; spelled = spelled } in (
@@ -130,4 +142,5 @@ snaps-seen program id bytes w world is whole same valid fits spelled =
       subst (λ (x : WorldRecord). bytes ≡ world_spelling x) seen spelled,
       subst (λ (x : WorldRecord). IsSnapshot counts id bytes x) seen snapshot,
       subst (λ (x : WorldRecord). snapshot_world counts id bytes ≡ Some x) seen (snapshot-is counts id bytes world snapshot),
+      short,
     )

@@ -1,18 +1,14 @@
 -- The worlds of a program with its persisted value and of a session, as replicas want worlds.
-use Rattle.std.specs.Prelude.{ℕ, nat_lt, Bool, ◌&&◌, bytes_eq, List}
-use Rattle.std.specs.List.{list_all}
+use Rattle.std.specs.Prelude.{ℕ, ◌&&◌, bytes_eq, List}
 use Rattle.model_solved.specs.Founding.{Founding}
 use Rattle.world_plain.specs.Messages.{PlainOutgoing}
 use Rattle.world_plain.specs.ValidTest.{is_valid}
 use Rattle.world_plain.specs.World.{WorldRecord}
+pub use Rattle.world.specs.View.{is_at_rest}
 use Rattle.world.specs.Worlds.{field_counts, first_scene, external, advance, take_up}
 use Rattle.snapshot_codec.specs.Answer.{snapshot_world}
 use Rattle.snapshot_codec.specs.Spelling.{world_spelling}
 use Rattle.replica_plain.specs.Worlds.{Worlds}
-
--- no pending message has the world's own time or less
-abbrev pub is_at_rest : WorldRecord → Bool
-is_at_rest w = list_all (λ m. nat_lt w.time m.time) w.pending
 
 -- What a world does follows from it alone. What its models publish is told behind what they published before.
 abbrev pub worlds : Founding → List ℕ → Worlds WorldRecord PlainOutgoing

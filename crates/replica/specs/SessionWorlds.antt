@@ -1,8 +1,10 @@
 -- What contracts see of the world that a replica has.
-use Rattle.std.specs.Prelude.{◌≡◌, ℕ, Bool, true, false, List, [], Option, Some, None, Result, Ok, Err, ⊤}
+use Rattle.std.specs.Prelude.{◌≡◌, ◌≤◌, ℕ, Bool, true, false, List, [], length, Option, Some, None, Result, Ok, Err, ⊤}
+use Rattle.tea_base.specs.Limits.{most_snapshot}
 use Rattle.model_solved.specs.Founding.{CheckedView, checked_tree, founding_of, IsFounding}
 use Rattle.world_plain.specs.Messages.{PlainOutgoing}
-use Rattle.world_plain.specs.World.{WorldRecord}
+use Rattle.world_plain.specs.World.{WorldRecord, world_record}
+use Rattle.world_plain.specs.declared.world.PlainWorld.{PlainWorld}
 use Rattle.world.specs.declared.fault.WorldFault.{WorldFault}
 use Rattle.world.specs.declared.fault.WorldFault.TheVariants as fault
 use Rattle.world.specs.View.{WorldView}
@@ -67,24 +69,36 @@ abbrev pub quiet_world : SessionWorldView → WorldRecord → SessionWorldView
 quiet_world w world = record w { world = world; out = []; broken = false }
 
 -- a call that moves a world on to another one, where it would go back or not
-abbrev pub GoesOn : Result ⊤ WorldFault → SessionWorldView → SessionWorldView → Bool → WorldRecord → List PlainOutgoing → Type 0
-GoesOn (Ok done) old new back world out = (old.broken ≡ false) × (back ≡ false) × (new ≡ record old { world = world; out = out })
+abbrev pub GoesOn : Result ⊤ WorldFault → SessionWorldView → SessionWorldView → Bool → WorldRecord → List PlainOutgoing
+    → Type 0
+GoesOn (Ok done) old new back world out =
+    (old.broken ≡ false) × (back ≡ false) × (new ≡ record old { world = world; out = out })
 GoesOn (Err fault.Broken) old new back world out = (old.broken ≡ true) × (new ≡ old)
-GoesOn (Err (fault.Back time)) old new back world out = (old.broken ≡ false) × (back ≡ true) × (time ≡ old.world.time) × (new ≡ old)
-GoesOn (Err fault.WantOfMemory) old new back world out = (old.broken ≡ false) × (back ≡ false) × (new ≡ broken_world old)
+GoesOn (Err (fault.Back time)) old new back world out = (old.broken ≡ false) × (back ≡ true) × (time ≡ old.world.time)
+    × (new ≡ old)
+GoesOn (Err fault.WantOfMemory) old new back world out =
+    (old.broken ≡ false) × (back ≡ false) × (new ≡ broken_world old)
 
 -- the world that bytes spell, if they spell one
 abbrev pub IsFound : Option SessionWorldView → SessionWorldView → Option WorldRecord → Type 0
 IsFound None w read = read ≡ None
 IsFound (Some found) w read = (read ≡ Some found.world) × (found ≡ quiet_world w found.world)
 
--- the snapshot of a world that is not broken, which is read as that world
+-- a copy of a world that is not broken, as plain data
+abbrev pub CopiesWorld : Result PlainWorld WorldFault → SessionWorldView → Type 0
+CopiesWorld (Ok plain) w = (w.broken ≡ false) × (world_record plain ≡ w.world)
+CopiesWorld (Err fault.Broken) w = w.broken ≡ true
+CopiesWorld (Err (fault.Back time)) w = ⊥
+CopiesWorld (Err fault.WantOfMemory) w = w.broken ≡ false
+
+-- the snapshot of a world that is not broken, which is read as that world, and has no more bytes than a snapshot may have
 abbrev pub Snaps : Result (List ℕ) WorldFault → SessionWorldView → Type 0
 Snaps (Ok bytes) w =
     (w.broken ≡ false)
     × (bytes ≡ (own_worlds w).snapshot w.world)
     × IsSnapshot (field_counts (checked_tree w.program)) w.id bytes w.world
     × ((own_worlds w).unsnap bytes ≡ Some w.world)
+    × (length bytes ≤ most_snapshot)
 Snaps (Err fault.Broken) w = w.broken ≡ true
 Snaps (Err (fault.Back time)) w = ⊥
 Snaps (Err fault.WantOfMemory) w = w.broken ≡ false

@@ -32,7 +32,13 @@ KeepsSession old new = new ≡ with_plain old new.plain
 
 -- the world and what its models published, as the rows of a plain replica name them
 abbrev pub world_part : ReplicaView → SessionWorldView
-world_part r = record { program = r.program; id = r.id; world = r.plain.world; out = r.plain.out; broken = r.plain.broken }
+world_part r = record {
+  program = r.program;
+  id = r.id;
+  world = r.plain.world;
+  out = r.plain.out;
+  broken = r.plain.broken;
+}
 
 -- What is so of every replica: a session can be founded from its program; its world is a valid one of the program and the session where it is
 -- not broken, and nothing is published where it is; and how its numbers stand.
@@ -44,7 +50,8 @@ pub record IsSoundReplica (r : ReplicaView) : Type 0 where
 
 -- a view that has the first world of a session, has seen nothing and has not joined
 abbrev pub founded_replica : CheckedView → List ℕ → ℕ → ReplicaView
-founded_replica program id view = record { program = program; id = id; plain = new_replica (worlds (founding_of program) id) view }
+founded_replica program id view =
+    record { program = program; id = id; plain = new_replica (worlds (founding_of program) id) view }
 
 -- what a replica says of a fault of its world
 abbrev pub cause_of : WorldFault → ReplicaFault

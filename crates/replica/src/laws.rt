@@ -1,12 +1,13 @@
 //! What a replica knows of a log, and that it may go to another thread.
-ghost use Rattle.std.specs.Prelude.{◌≡◌, ◌↔◌, ◌<◌, ℕ, true, List, ◌∷◌, ◌++◌, Option, Some, None};
+ghost use Rattle.std.specs.Prelude.{◌≡◌, ◌≤◌, ◌<◌, ℕ, true, List, ◌∷◌, ◌++◌, Option, Some, None};
 ghost use Rattle.tea_base.specs.Limits.{time_limit};
 ghost use Rattle.std.specs.Thread.{IsSend};
 ghost use Rattle.tea_base.specs.Legal.{IsLegal};
 ghost use Rattle.tea_base.specs.declared.entry.Entry.{Entry};
 ghost use Rattle.model_solved.specs.Founding.{CheckedView, Founding, founding_of, IsFounding};
 ghost use Rattle.world_plain.specs.World.{WorldRecord};
-ghost use Rattle.world.specs.Worlds.{Follows, replay};
+ghost use Rattle.world_plain.specs.Valid.{Valid};
+ghost use Rattle.world.specs.Worlds.{field_counts, replay, replay_on};
 ghost use Rattle.snapshot_codec.specs.Spelling.{world_spelling};
 ghost use Rattle.wire_frames.specs.declared.start.Base.{Base};
 ghost use Rattle.wire_frames.specs.declared.frame.ClientFrame.{ClientFrame};
@@ -24,7 +25,7 @@ ghost use Rattle.replica.specs.contracts.replica.Replica as replica;
 use model_solved::checked_crosses_threads;
 use world::{
     advance_rests, advance_twice, at_rest_stays, external_after, external_keeps_valid,
-    first_world_is_valid, replay_folds, world_crosses_threads, world_decides,
+    first_world_is_valid, replay_folds, replay_rests, world_crosses_threads, world_decides,
 };
 
 /// The worlds of a program and a session are as a replica wants worlds.
@@ -40,12 +41,27 @@ pub fn worlds_stand()
     world_decides();
 }
 
-/// What a log makes of them is the replay of the log, and one of them follows a log exactly where a world does.
+/// What a log makes of them is the replay of the log, which follows it.
 pub fn worlds_replay()
-    ensures replays { (founding : Founding) (id : List ℕ) (log : List Entry) (t : ℕ) → (replay founding id log t).world ≡ replay_world (worlds founding id) log t }
-    ensures follows { (founding : Founding) (w : WorldRecord) (log : List Entry) → Follows founding w log ↔ WorldFollows (worlds founding w.id) log w }
+    ensures replays { (founding : Founding) (id : List ℕ) (log : List Entry) (t : ℕ)
+        → (replay founding id log t).world ≡ replay_world (worlds founding id) log t }
+    ensures follows { (founding : Founding) (id : List ℕ) (log : List Entry) (t : ℕ) → IsFounding founding → IsLegal log
+        → t < time_limit
+        → WorldFollows (worlds founding id) log (replay founding id log t).world }
 {
     replay_folds();
+    replay_rests();
+}
+
+/// A world that follows a log, taken up at its time, is from there on the replay of the whole log: it handles the entries
+/// behind its time alone.
+pub fn resumed_follows()
+    ensures { (founding : Founding) (w : WorldRecord) (log : List Entry) (t : ℕ) → IsFounding founding
+        → Valid (field_counts founding.tree) w → IsLegal log → w.time ≤ t → t < time_limit
+        → WorldFollows (worlds founding w.id) log w
+        → (replay_on founding.tree w log t).world ≡ (replay founding w.id log t).world }
+{
+    worlds_replay();
 }
 
 /// A replica that was founded, or lost its world, follows each legal log. One that took the first part of what a connection served
@@ -57,14 +73,21 @@ pub fn worlds_replay()
 /// acknowledged and of no more than were published. Its base, if it has one, is honest. A replica that joined by `Resume`
 /// followed the log.
 pub fn replica_follows()
-    ensures founded { (program : CheckedView) (id : List ℕ) (view : ℕ) (log : List Entry) → IsFounding (founding_of program) → IsLegal log
+    ensures founded { (program : CheckedView) (id : List ℕ) (view : ℕ) (log : List Entry)
+        → IsFounding (founding_of program) → IsLegal log
         → FollowsLog (worlds (founding_of program) id) log (founded_replica program id view).plain }
-    ensures lost { (r : ReplicaView) (log : List Entry) → IsFounding (founding_of r.program) → IsLegal log → FollowsLog (worlds_of r) log (loses (worlds_of r) r.plain) }
-    ensures follows { (r : ReplicaView) (log : List Entry) (how : How) (given : List (Option ClientFrame)) (joined last from : ℕ) (base : Option Base) (calls : List ReplicaCall) (rest : List ServerFrame)
-        → IsFounding (founding_of r.program) → IsLegal log → IsServedTo (worlds_of r) log r.plain how given joined last from base (frames_of_calls calls ++ rest)
-        → FollowsLog (worlds_of r) log (after_calls (worlds_of r) r.plain (ToTake (Sync joined last from base) ∷ calls)) }
-    ensures read { (r : ReplicaView) (log : List Entry) (how : How) (given : List (Option ClientFrame)) (joined last from : ℕ) (base : Option Base) (calls : List ReplicaCall) (rest : List ServerFrame)
-        → IsFounding (founding_of r.program) → IsLegal log → IsServedTo (worlds_of r) log r.plain how given joined last from base (frames_of_calls calls ++ rest)
+    ensures lost { (r : ReplicaView) (log : List Entry) → IsFounding (founding_of r.program) → IsLegal log
+        → FollowsLog (worlds_of r) log (loses (worlds_of r) r.plain) }
+    ensures follows { (r : ReplicaView) (log : List Entry) (how : How) (given : List (Option ClientFrame))
+        (joined last from : ℕ) (base : Option Base) (calls : List ReplicaCall) (rest : List ServerFrame)
+        → IsFounding (founding_of r.program) → IsLegal log
+        → IsServedTo (worlds_of r) log r.plain how given joined last from base (frames_of_calls calls ++ rest)
+        → FollowsLog (worlds_of r) log
+        (after_calls (worlds_of r) r.plain (ToTake (Sync joined last from base) ∷ calls)) }
+    ensures read { (r : ReplicaView) (log : List Entry) (how : How) (given : List (Option ClientFrame))
+        (joined last from : ℕ) (base : Option Base) (calls : List ReplicaCall) (rest : List ServerFrame)
+        → IsFounding (founding_of r.program) → IsLegal log
+        → IsServedTo (worlds_of r) log r.plain how given joined last from base (frames_of_calls calls ++ rest)
         → AreReadCalls (worlds_of r) r.plain (ToTake (Sync joined last from base) ∷ calls) }
 {
     worlds_stand();
@@ -73,10 +96,13 @@ pub fn replica_follows()
 /// A replica that follows a log and whose world is at rest has the replay of the log to its time. So two replicas of one program
 /// and session that follow one log, are at rest and have come to one time have equal snapshot bytes.
 pub fn equal_snapshots()
-    ensures replays { (r : ReplicaView) (log : List Entry) → IsFounding (founding_of r.program) → FollowsLog (worlds_of r) log r.plain → is_at_rest r.plain.world ≡ true
+    ensures replays { (r : ReplicaView) (log : List Entry) → IsFounding (founding_of r.program)
+        → FollowsLog (worlds_of r) log r.plain → is_at_rest r.plain.world ≡ true
         → r.plain.world ≡ (replay (founding_of r.program) r.id log r.plain.world.time).world }
-    ensures snapshots { (r other : ReplicaView) (log : List Entry) → IsFounding (founding_of r.program) → other.program ≡ r.program → other.id ≡ r.id
-        → FollowsLog (worlds_of r) log r.plain → FollowsLog (worlds_of other) log other.plain → is_at_rest r.plain.world ≡ true → is_at_rest other.plain.world ≡ true
+    ensures snapshots { (r other : ReplicaView) (log : List Entry) → IsFounding (founding_of r.program)
+        → other.program ≡ r.program → other.id ≡ r.id
+        → FollowsLog (worlds_of r) log r.plain → FollowsLog (worlds_of other) log other.plain
+        → is_at_rest r.plain.world ≡ true → is_at_rest other.plain.world ≡ true
         → r.plain.world.time ≡ other.plain.world.time
         → world_spelling r.plain.world ≡ world_spelling other.plain.world }
 {
@@ -86,8 +112,10 @@ pub fn equal_snapshots()
 
 /// A replica that took a tick is at rest.
 pub fn ticks_bring_rest()
-    ensures { (r : ReplicaView) (t : ℕ) → IsFounding (founding_of r.program) → (worlds_of r).valid r.plain.world ≡ true → t < time_limit → r.plain.synced ≡ true
-        → (taken (worlds_of r) r.plain (Tick t)).fault ≡ None → is_at_rest (taken (worlds_of r) r.plain (Tick t)).replica.world ≡ true }
+    ensures { (r : ReplicaView) (t : ℕ) → IsFounding (founding_of r.program) → (worlds_of r).valid r.plain.world ≡ true
+        → t < time_limit → r.plain.synced ≡ true
+        → (taken (worlds_of r) r.plain (Tick t)).fault ≡ None
+        → is_at_rest (taken (worlds_of r) r.plain (Tick t)).replica.world ≡ true }
 {
     worlds_stand();
 }
@@ -95,7 +123,8 @@ pub fn ticks_bring_rest()
 /// The snapshot of a replica that follows a log, at rest or not, is an honest base: [`snap`](crate::Replica::snap) tells that its
 /// bytes spell the replica's world.
 pub fn snapshots_are_honest()
-    ensures { (r : ReplicaView) (log : List Entry) (bytes : List ℕ) → FollowsLog (worlds_of r) log r.plain → (worlds_of r).unsnap bytes ≡ Some r.plain.world
+    ensures { (r : ReplicaView) (log : List Entry) (bytes : List ℕ) → FollowsLog (worlds_of r) log r.plain
+        → (worlds_of r).unsnap bytes ≡ Some r.plain.world
         → IsHonest (worlds_of r) log r.plain.world.time bytes }
 {}
 

@@ -9,7 +9,7 @@ mod sending;
 mod session_world;
 
 pub use laws::{
-    equal_snapshots, replica_crosses_threads, replica_follows, snapshots_are_honest,
-    ticks_bring_rest, worlds_replay, worlds_stand,
+    equal_snapshots, replica_crosses_threads, replica_follows, resumed_follows,
+    snapshots_are_honest, ticks_bring_rest, worlds_replay, worlds_stand,
 };
 pub use replica::Replica;

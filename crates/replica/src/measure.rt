@@ -21,7 +21,9 @@ pub(crate) fn payload_len(
     value: &Value,
 ) -> Result<u32, WantOfMemory>
     requires { InBounds (plain value.now) }
-    ensures { IfOk result (λ len. len ≡ min (length (payload_spelling (record { scope = scope.now; event = event.now; value = plain value.now }))) (2 ^ 32 - 1)) }
+    ensures { IfOk result (λ len. len
+        ≡ min (length (payload_spelling (record { scope = scope.now; event = event.now; value = plain value.now })))
+        (2 ^ 32 - 1)) }
 {
     let behind = value_len(alloc, value)?;
     Ok(

@@ -1,6 +1,8 @@
 //! The events of a view that are not acknowledged.
 ghost use Rattle.std.specs.Prelude.{◌≡◌, ◌≤◌, ◌<◌, ◌+◌, ◌-◌, ◌^◌, [], ◌∷◌, ◌++◌, drop, length, sum_by, IfOk, OnOk, OnErr};
+ghost use Rattle.std.specs.List.{AllByRecursion};
 ghost use Rattle.tea_base.specs.Limits.{most_payload};
+ghost use Rattle.wire_frames.specs.Frames.{FitsClient};
 ghost use Rattle.replica_plain.specs.Calls.{sends_after};
 ghost use Rattle.replica_plain.specs.PlainReplica.{most_published};
 
@@ -79,7 +81,7 @@ impl Outbox {
         }
     }
 
-    /// The SENDs of the payloads after the first so many. Their numbers begin after this one.
+    /// The SENDs of the payloads after the first so many, each of which fits its fields. Their numbers begin after this one.
     pub(crate) fn sends(
         &mut self,
         alloc: Global,
@@ -89,6 +91,7 @@ impl Outbox {
         requires skipped { skipped ≤ length self.old }
         requires numbers { number + (length self.old - skipped) < 2 ^ 32 }
         ensures frames { IfOk result (λ frames. frames ≡ sends_after number (drop skipped self.old)) }
+        ensures fit { IfOk result (λ frames. AllByRecursion FitsClient frames) }
         ensures kept { self.new ≡ self.old }
     {
         let payloads: &[Blob] = self.payloads.make_contiguous();

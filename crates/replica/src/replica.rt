@@ -1,16 +1,22 @@
 //! Replicas.
 ghost use Rattle.std.specs.Prelude.{◌≡◌, ◌↔◌, ◌≤◌, ◌<◌, ◌+◌, false, nat_eq, [], length, map, sum_by, None, Some, IfOk, OnOk, OnErr, IsTrue};
 ghost use Rattle.std.specs.Arc.{arc_value};
+ghost use Rattle.std.specs.List.{AllByRecursion};
 ghost use Rattle.tea_base.specs.Limits.{most_payload, time_limit};
 ghost use Rattle.model_value.specs.Payload.{payload_spelling};
 ghost use Rattle.model_value.specs.Plain.{InBounds};
 ghost use Rattle.model_value.specs.View.{plain};
+ghost use Rattle.wire_frames.specs.Frames.{FitsClient};
 ghost use Rattle.world_plain.specs.Messages.{plain_outgoing};
+ghost use Rattle.world_plain.specs.Valid.{Valid};
+ghost use Rattle.world_plain.specs.World.{world_record};
+ghost use Rattle.model_solved.specs.Founding.{checked_tree};
+ghost use Rattle.world.specs.Worlds.{field_counts};
 ghost use Rattle.replica_plain.specs.declared.how.How.TheVariants.{Resume};
 ghost use Rattle.replica_plain.specs.PlainReplica.{most_published, published_count, breaks};
 ghost use Rattle.replica_plain.specs.Taking.{IsTaken, begins_anew, begins_with_world, goes_on_from, lost_at, synced_with, take_done, take_entry, take_refused, take_sync, take_tick, taken, IsTimely};
 ghost use Rattle.replica_plain.specs.Calls.{Publishes, gives, join_frame, joining, loses, publishes, takes_out, unsent};
-ghost use Rattle.replica.specs.SessionWorlds.{Snaps};
+ghost use Rattle.replica.specs.SessionWorlds.{CopiesWorld, Snaps};
 ghost use Rattle.replica.specs.View.{IsSoundReplica, KeepsSession, cause_of, founded_replica, with_plain, world_part, worlds_of};
 
 use crate::measure::payload_len;
@@ -25,7 +31,7 @@ use std::sync::Arc;
 use tea_base::{Blob, Entry, List, MOST_PAYLOAD, SessionId, Text, WantOfMemory};
 use wire_frames::{Base, ClientFrame, ClientFrames, JOIN_TAG, SNAP_TAG, ServerFrame, Want};
 use world::WorldFault;
-use world_plain::Published;
+use world_plain::{PlainWorld, Published};
 
 /// The most events that a view publishes.
 const MOST_PUBLISHED: u32 = 1_048_576;
@@ -63,7 +69,12 @@ impl Model for Replica {
 
     ghost Value = { ReplicaView };
 
-    ghost coded = { Prim.hlevel (codes, coded_checked (Prim.hlevel (codes, stmt.the_row.coded)), coded_world, coded_outgoing) };
+    ghost coded = { Prim.hlevel (
+      codes,
+      coded_checked (Prim.hlevel (codes, stmt.the_row.coded)),
+      coded_world,
+      coded_outgoing,
+    ) };
 
     ghost use Rattle.replica.specs.Parts.{replica_view, plain_part};
 
@@ -117,10 +128,12 @@ impl Replica {
     }
 
     /// Joins, and answers the frame for it: a Sync is awaited from then on, and each event that is not acknowledged counts as
-    /// unsent. `Resume` asks for what is later than the replica's time; a broken replica has to join otherwise. Takes no memory.
+    /// unsent. `Resume` asks for what is later than the replica's time; a broken replica has to join otherwise. The frame fits its
+    /// fields. Takes no memory.
     pub fn join(&mut self, how: How) -> ClientFrame
         requires { how ≡ Resume → self.old.plain.broken ≡ false }
         ensures frame { result ≡ join_frame (worlds_of self.old) self.old.plain how }
+        ensures fits { FitsClient result }
         ensures joins { self.new ≡ with_plain self.old (joining self.old.plain how) }
     {
         self.given = self.acknowledged;
@@ -161,7 +174,8 @@ impl Replica {
     ///   broken, and the published list is empty. No other frame takes memory.
     pub fn take(&mut self, frame: &ServerFrame) -> Result<(), ReplicaFault>
         requires { IsTimely frame.now }
-        ensures taken { IsTaken result (lost_at (worlds_of self.old) self.old.plain frame.now) self.new.plain (taken (worlds_of self.old) self.old.plain frame.now) }
+        ensures taken { IsTaken result (lost_at (worlds_of self.old) self.old.plain frame.now) self.new.plain
+            (taken (worlds_of self.old) self.old.plain frame.now) }
         ensures session { KeepsSession self.old self.new }
     {
         match frame {
@@ -190,7 +204,8 @@ impl Replica {
     }
 
     fn take_sync(&mut self, last: u32, from: u32, base: &Option<Base>) -> Result<(), ReplicaFault>
-        ensures taken { IsTaken result (Some self.old.plain) self.new.plain (take_sync (worlds_of self.old) self.old.plain self.old.plain.awaited last from base.now) }
+        ensures taken { IsTaken result (Some self.old.plain) self.new.plain
+            (take_sync (worlds_of self.old) self.old.plain self.old.plain.awaited last from base.now) }
         ensures session { KeepsSession self.old self.new }
     {
         let Some(how) = self.awaited else {
@@ -240,7 +255,8 @@ impl Replica {
 
     /// A Sync without a base after `Fresh` or `Whole`.
     fn begin_anew(&mut self, from: u32) -> Result<(), ReplicaFault>
-        ensures taken { IsTaken result (Some self.old.plain) self.new.plain (begins_anew (worlds_of self.old) self.old.plain from) }
+        ensures taken { IsTaken result (Some self.old.plain) self.new.plain
+            (begins_anew (worlds_of self.old) self.old.plain from) }
         ensures session { KeepsSession self.old self.new }
     {
         if from != 0 {
@@ -256,7 +272,9 @@ impl Replica {
 
     /// A Sync with a base after `Fresh`.
     fn begin_with(&mut self, from: u32, base: &Base) -> Result<(), ReplicaFault>
-        ensures taken { IsTaken result (Some self.old.plain) self.new.plain (begins_with_world (worlds_of self.old) self.old.plain from base.now.time ((worlds_of self.old).unsnap base.now.bytes)) }
+        ensures taken { IsTaken result (Some self.old.plain) self.new.plain
+            (begins_with_world (worlds_of self.old) self.old.plain from base.now.time
+            ((worlds_of self.old).unsnap base.now.bytes)) }
         ensures session { KeepsSession self.old self.new }
     {
         let Some(world) = self.world.of_bytes(base.bytes.bytes())? else {
@@ -286,7 +304,8 @@ impl Replica {
 
     fn take_entry(&mut self, entry: &Entry) -> Result<(), ReplicaFault>
         requires { entry.now.time < time_limit }
-        ensures taken { IsTaken result (Some (breaks (worlds_of self.old) self.old.plain)) self.new.plain (take_entry (worlds_of self.old) self.old.plain entry.now) }
+        ensures taken { IsTaken result (Some (breaks (worlds_of self.old) self.old.plain)) self.new.plain
+            (take_entry (worlds_of self.old) self.old.plain entry.now) }
         ensures session { KeepsSession self.old self.new }
     {
         if self.world.broken() {
@@ -309,7 +328,8 @@ impl Replica {
 
     fn take_tick(&mut self, time: u64) -> Result<(), ReplicaFault>
         requires { time < time_limit }
-        ensures taken { IsTaken result (Some (breaks (worlds_of self.old) self.old.plain)) self.new.plain (take_tick (worlds_of self.old) self.old.plain time) }
+        ensures taken { IsTaken result (Some (breaks (worlds_of self.old) self.old.plain)) self.new.plain
+            (take_tick (worlds_of self.old) self.old.plain time) }
         ensures session { KeepsSession self.old self.new }
     {
         match self.world.advance(time) {
@@ -361,7 +381,8 @@ impl Replica {
         value: &Value,
     ) -> Result<u32, PublishRefusal>
         requires { InBounds (plain value.now) }
-        ensures publishes { Publishes result self.old.plain self.new.plain (payload_spelling (record { scope = scope.now; event = event.now; value = plain value.now })) }
+        ensures publishes { Publishes result self.old.plain self.new.plain
+            (payload_spelling (record { scope = scope.now; event = event.now; value = plain value.now })) }
         ensures session { KeepsSession self.old self.new }
     {
         let len = payload_len(self.alloc, scope, event, value)?;
@@ -395,9 +416,10 @@ impl Replica {
     }
 
     /// The SENDs of all events that are not acknowledged and were not given since the last Sync, in order; they count as given.
-    /// There are none while no Sync was taken since the last join. Want of memory changes nothing.
+    /// There are none while no Sync was taken since the last join. Each fits its fields. Want of memory changes nothing.
     pub fn unsent(&mut self) -> Result<ClientFrames, WantOfMemory>
         ensures frames { IfOk result (λ frames. frames ≡ unsent self.old.plain) }
+        ensures fit { IfOk result (λ frames. AllByRecursion FitsClient frames) }
         ensures ok { OnOk result (self.new ≡ with_plain self.old (gives self.old.plain)) }
         ensures err { OnErr result (self.new ≡ self.old) }
     {
@@ -410,7 +432,21 @@ impl Replica {
         Ok(frames)
     }
 
-    /// The snapshot of the world, as [`snapshot`](snapshot_codec::snapshot) writes it: it is read again as this world.
+    /// The world as plain data.
+    ///
+    /// # Errors
+    ///
+    /// `Broken` exactly where the replica is broken, and never `Back`.
+    pub fn to_plain(&self) -> Result<PlainWorld, WorldFault>
+        ensures copy { CopiesWorld result (world_part self.now) }
+        ensures valid { IfOk result (λ plain.
+            Valid (field_counts (checked_tree self.now.program)) (world_record plain)) }
+    {
+        self.world.to_plain()
+    }
+
+    /// The snapshot of the world, as [`snapshot`](snapshot_codec::snapshot) writes it: it is read again as this world, and has
+    /// 4,194,304 bytes at most.
     ///
     /// # Errors
     ///
@@ -442,7 +478,7 @@ impl Replica {
         ensures base { result ≡ self.now.plain.base }
         ensures sound { IsSoundReplica self.now }
     {
-        self.tell();
+        self.tell(); // for the prover
         self.base
     }
 
@@ -451,7 +487,7 @@ impl Replica {
         ensures count { result ≡ length self.now.plain.outbox }
         ensures sound { IsSoundReplica self.now }
     {
-        self.tell();
+        self.tell(); // for the prover
         self.outbox.len()
     }
 
@@ -460,7 +496,7 @@ impl Replica {
         ensures count { result ≡ sum_by length self.now.plain.outbox }
         ensures sound { IsSoundReplica self.now }
     {
-        self.tell();
+        self.tell(); // for the prover
         self.outbox.bytes()
     }
 
@@ -469,16 +505,17 @@ impl Replica {
         ensures settled { IsTrue result ↔ (self.now.plain.outbox ≡ []) }
         ensures sound { IsSoundReplica self.now }
     {
-        self.tell();
+        self.tell(); // for the prover
         self.outbox.len() == 0
     }
 
-    /// The world's time, in microseconds of TeaTime; of a broken replica 0. Takes no memory.
+    /// The world's time, in microseconds of TeaTime, below 2^53; of a broken replica 0. Takes no memory.
     pub fn time(&self) -> u64
         ensures time { result ≡ self.now.plain.world.time }
+        ensures timely { result < time_limit }
         ensures sound { IsSoundReplica self.now }
     {
-        self.tell();
+        self.tell(); // for the prover
         self.world.time()
     }
 
@@ -487,7 +524,7 @@ impl Replica {
         ensures seen { result ≡ self.now.plain.seen }
         ensures sound { IsSoundReplica self.now }
     {
-        self.tell();
+        self.tell(); // for the prover
         self.seen
     }
 
@@ -496,7 +533,7 @@ impl Replica {
         ensures broken { result ≡ self.now.plain.broken }
         ensures sound { IsSoundReplica self.now }
     {
-        self.tell();
+        self.tell(); // for the prover
         self.world.broken()
     }
 

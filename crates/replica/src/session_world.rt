@@ -7,7 +7,7 @@ ghost use Rattle.world_plain.specs.Messages.{plain_outgoing};
 ghost use Rattle.world_plain.specs.Valid.{Valid};
 ghost use Rattle.world_plain.specs.World.{world_record};
 ghost use Rattle.world.specs.Worlds.{field_counts};
-ghost use Rattle.replica.specs.SessionWorlds.{own_worlds, first_world, quiet_world, GoesOn, IsFound, IsSoundSessionWorld, Snaps};
+ghost use Rattle.replica.specs.SessionWorlds.{own_worlds, first_world, quiet_world, CopiesWorld, GoesOn, IsFound, IsSoundSessionWorld, Snaps};
 
 use model_solved::Checked;
 use snapshot_codec::{SnapFault, snapshot, unsnap};
@@ -38,7 +38,12 @@ impl Model for SessionWorld {
 
     ghost Value = { SessionWorldView };
 
-    ghost coded = { Prim.hlevel (codes, coded_checked (Prim.hlevel (codes, stmt.the_row.coded)), coded_world, coded_outgoing) };
+    ghost coded = { Prim.hlevel (
+      codes,
+      coded_checked (Prim.hlevel (codes, stmt.the_row.coded)),
+      coded_world,
+      coded_outgoing,
+    ) };
 
     ghost view = { λ w. session_view w.id.0 w.world };
 
@@ -56,7 +61,7 @@ impl SessionWorld {
     {
         let world = World::first(alloc, program.clone()?, id)?;
         // It tells what is so of every world.
-        let _broken = world.broken();
+        let _broken = world.broken(); // for the prover
         Ok(SessionWorld {
             alloc,
             program,
@@ -102,7 +107,9 @@ impl SessionWorld {
     /// Handles an entry of the log, as [`World::external`] does.
     pub(crate) fn external(&mut self, entry: &Entry) -> Result<(), WorldFault>
         requires { entry.now.time < time_limit }
-        ensures { GoesOn result self.old self.new (nat_le entry.now.time self.old.world.time) ((own_worlds self.old).external self.old.world entry.now) ((own_worlds self.old).external_out self.old.world entry.now self.old.out) }
+        ensures { GoesOn result self.old self.new (nat_le entry.now.time self.old.world.time)
+            ((own_worlds self.old).external self.old.world entry.now)
+            ((own_worlds self.old).external_out self.old.world entry.now self.old.out) }
     {
         self.world.external(entry)
     }
@@ -110,9 +117,20 @@ impl SessionWorld {
     /// Advances to a time, as [`World::advance`] does.
     pub(crate) fn advance(&mut self, time: u64) -> Result<(), WorldFault>
         requires { time < time_limit }
-        ensures { GoesOn result self.old self.new (nat_lt time self.old.world.time) ((own_worlds self.old).advance self.old.world time) ((own_worlds self.old).advance_out self.old.world time self.old.out) }
+        ensures { GoesOn result self.old self.new (nat_lt time self.old.world.time)
+            ((own_worlds self.old).advance self.old.world time)
+            ((own_worlds self.old).advance_out self.old.world time self.old.out) }
     {
         self.world.advance(time)
+    }
+
+    /// The world as plain data.
+    pub(crate) fn to_plain(&self) -> Result<PlainWorld, WorldFault>
+        ensures copy { CopiesWorld result self.now }
+        ensures valid { IfOk result (λ plain.
+            Valid (field_counts (checked_tree self.now.program)) (world_record plain)) }
+    {
+        self.world.to_plain()
     }
 
     /// The snapshot of the world.
@@ -134,6 +152,7 @@ impl SessionWorld {
     /// The world's time, which of a broken one is 0.
     pub(crate) fn time(&self) -> u64
         ensures time { result ≡ self.now.world.time }
+        ensures timely { result < time_limit }
         ensures sound { IsSoundSessionWorld self.now }
     {
         if self.world.broken() {

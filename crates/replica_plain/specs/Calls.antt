@@ -29,7 +29,16 @@ join_frame m r how = Join (record { 0 = m.session }) r.view (join_want m r how)
 -- the first world again, before any join
 abbrev pub loses : {W O : Type 0} → Worlds W O → PlainReplica W O → PlainReplica W O
 loses m r =
-    record r { world = m.first; out = m.first_out; broken = false; seen = 0; given = r.acknowledged; awaited = None; synced = false; base = None }
+    record r {
+      world = m.first;
+      out = m.first_out;
+      broken = false;
+      seen = 0;
+      given = r.acknowledged;
+      awaited = None;
+      synced = false;
+      base = None;
+    }
 
 -- ---- events
 
@@ -39,8 +48,10 @@ publishes r payload = record r { outbox = r.outbox ++ payload ∷ [] }
 -- a payload of more than 4,096 bytes is too long, and then an event too many is refused
 abbrev pub Publishes : {W O : Type 0} → Result ℕ PublishRefusal → PlainReplica W O → PlainReplica W O → List ℕ → Type 0
 Publishes (Ok number) old new payload =
-    (length payload ≤ most_payload) × (published_count old < most_published) × (number ≡ published_count old + 1) × (new ≡ publishes old payload)
-Publishes (Err (TooLong len)) old new payload = (most_payload < length payload) × (len ≡ min (length payload) (2 ^ 32 - 1)) × (new ≡ old)
+    (length payload ≤ most_payload) × (published_count old < most_published) × (number ≡ published_count old + 1)
+    × (new ≡ publishes old payload)
+Publishes (Err (TooLong len)) old new payload =
+    (most_payload < length payload) × (len ≡ min (length payload) (2 ^ 32 - 1)) × (new ≡ old)
 Publishes (Err (Full count)) old new payload =
     (length payload ≤ most_payload) × (published_count old ≡ most_published) × (count ≡ most_published) × (new ≡ old)
 Publishes (Err WantOfMemory) old new payload = new ≡ old

@@ -79,7 +79,8 @@ MayJoin m log r Resume = FollowsLog m log r
 
 -- A connection serves a replica that joined so: it was sent a SYNC that answers the replica's own JOIN, and more. The SYNC knows of
 -- as many of the view's events as were acknowledged, and of no more than were published; its base, if it has one, is honest.
-pub record IsServedTo {W O : Type 0} (m : Worlds W O) (log : List Entry) (r : PlainReplica W O) (how : How) (given : List (Option ClientFrame))
+pub record IsServedTo {W O : Type 0} (m : Worlds W O) (log : List Entry) (r : PlainReplica W O) (how : How)
+    (given : List (Option ClientFrame))
     (joined last from : ℕ) (base : Option Base) (rest : List ServerFrame) : Type 0 where
   pub awaited : r.awaited ≡ Some how
   pub served : Served log (Some (join_frame m r how) ∷ given) (Sync joined last from base ∷ rest)

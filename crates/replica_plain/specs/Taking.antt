@@ -42,7 +42,16 @@ out_of_order r expected found = faults r (cause.OutOfOrder expected found)
 -- the Sync is taken, with this world and what its models published; so many entries count as seen
 abbrev pub synced_with : {W O : Type 0} → PlainReplica W O → W → List O → ℕ → Option ℕ → PlainReplica W O
 synced_with r world out from base =
-    record r { world = world; out = out; broken = false; seen = from; given = r.acknowledged; awaited = None; synced = true; base = base }
+    record r {
+      world = world;
+      out = out;
+      broken = false;
+      seen = from;
+      given = r.acknowledged;
+      awaited = None;
+      synced = true;
+      base = base;
+    }
 
 -- the first world again, where all entries are to come
 abbrev pub begins_anew : {W O : Type 0} → Worlds W O → PlainReplica W O → ℕ → Taken W O
@@ -51,7 +60,8 @@ begins_anew m r from = if from == 0 then takes (synced_with r m.first m.first_ou
 -- its own world, where the entries behind those that it has are to come
 abbrev pub goes_on_from : {W O : Type 0} → PlainReplica W O → ℕ → Taken W O
 goes_on_from r from =
-    if from == r.seen then takes (record r { given = r.acknowledged; awaited = None; synced = true }) else out_of_order r r.seen from
+    if from == r.seen then takes (record r { given = r.acknowledged; awaited = None; synced = true })
+    else out_of_order r r.seen from
 
 -- the world that a base spells, if it spells one of the base's time
 abbrev pub begins_with_world : {W O : Type 0} → Worlds W O → PlainReplica W O → ℕ → ℕ → Option W → Taken W O
@@ -103,7 +113,11 @@ take_tick m r t =
 
 -- the least event that is not acknowledged leaves the outbox, and counts as given
 abbrev pub acknowledges : {W O : Type 0} → PlainReplica W O → List (List ℕ) → PlainReplica W O
-acknowledges r rest = record r { outbox = rest; acknowledged = r.acknowledged + 1; given = max r.given (r.acknowledged + 1) }
+acknowledges r rest = record r {
+  outbox = rest;
+  acknowledged = r.acknowledged + 1;
+  given = max r.given (r.acknowledged + 1);
+}
 
 abbrev pub take_done : {W O : Type 0} → PlainReplica W O → List (List ℕ) → ℕ → Taken W O
 take_done r [] number = out_of_order r (r.acknowledged + 1) number
@@ -151,7 +165,8 @@ MayWant (Some cause.BadBase) = Unit {0}
 MayWant (Some other) = ⊥
 
 -- The result of a call and the replica behind it are those of the table. Want of memory is the one free answer.
-abbrev pub IsTaken : {W O : Type 0} → Result ⊤ ReplicaFault → Option (PlainReplica W O) → PlainReplica W O → Taken W O → Type 0
+abbrev pub IsTaken : {W O : Type 0} → Result ⊤ ReplicaFault → Option (PlainReplica W O) → PlainReplica W O → Taken W O
+    → Type 0
 IsTaken (Ok done) lost new taken = (taken.fault ≡ None) × (new ≡ taken.replica)
 IsTaken (Err cause.WantOfMemory) lost new taken = MayWant taken.fault × (lost ≡ Some new)
 IsTaken (Err fault) lost new taken = (taken.fault ≡ Some fault) × (new ≡ taken.replica)

@@ -24,13 +24,19 @@ pub record AreWorlds {W O : Type 0} (m : Worlds W O) : Type 0 where
   pub first_time : m.time m.first ≡ 0
   pub first_valid : m.valid m.first ≡ true
   pub valid_time : (w : W) → m.valid w ≡ true → m.time w < time_limit
-  pub external_time : (w : W) (entry : Entry) → m.valid w ≡ true → m.time w ≤ entry.time → m.time (m.external w entry) ≡ entry.time
-  pub external_valid : (w : W) (entry : Entry) → m.valid w ≡ true → m.time w < entry.time → entry.time < time_limit → m.valid (m.external w entry) ≡ true
-  pub external_after : (w : W) (s : ℕ) (entry : Entry) → m.valid w ≡ true → m.time w ≤ s → s ≤ entry.time → s < time_limit → m.external (m.advance w s) entry ≡ m.external w entry
+  pub external_time : (w : W) (entry : Entry) → m.valid w ≡ true → m.time w ≤ entry.time
+      → m.time (m.external w entry) ≡ entry.time
+  pub external_valid : (w : W) (entry : Entry) → m.valid w ≡ true → m.time w < entry.time → entry.time < time_limit
+      → m.valid (m.external w entry) ≡ true
+  pub external_after : (w : W) (s : ℕ) (entry : Entry) → m.valid w ≡ true → m.time w ≤ s → s ≤ entry.time
+      → s < time_limit → m.external (m.advance w s) entry ≡ m.external w entry
   pub advance_time : (w : W) (t : ℕ) → m.valid w ≡ true → m.time w ≤ t → m.time (m.advance w t) ≡ t
-  pub advance_valid : (w : W) (t : ℕ) → m.valid w ≡ true → m.time w ≤ t → t < time_limit → m.valid (m.advance w t) ≡ true
-  pub advance_again : (w : W) (s t : ℕ) → m.valid w ≡ true → m.time w ≤ s → s ≤ t → s < time_limit → m.advance (m.advance w s) t ≡ m.advance w t
-  pub advance_rests : (w : W) (t : ℕ) → m.valid w ≡ true → m.time w ≤ t → t < time_limit → m.at_rest (m.advance w t) ≡ true
+  pub advance_valid : (w : W) (t : ℕ) → m.valid w ≡ true → m.time w ≤ t → t < time_limit
+      → m.valid (m.advance w t) ≡ true
+  pub advance_again : (w : W) (s t : ℕ) → m.valid w ≡ true → m.time w ≤ s → s ≤ t → s < time_limit
+      → m.advance (m.advance w s) t ≡ m.advance w t
+  pub advance_rests : (w : W) (t : ℕ) → m.valid w ≡ true → m.time w ≤ t → t < time_limit
+      → m.at_rest (m.advance w t) ≡ true
   pub at_rest_stays : (w : W) → m.valid w ≡ true → m.at_rest w ≡ true → m.advance w (m.time w) ≡ w
   pub unsnap_valid : (bytes : List ℕ) (w : W) → m.unsnap bytes ≡ Some w → m.valid w ≡ true
 

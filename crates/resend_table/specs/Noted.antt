@@ -16,7 +16,8 @@ stand_at table view = stand_in table.stands view
 -- it noted these entries in order: each view stands as they say, each Event is found at its seq, and so many are here
 pub record HasNoted (table : Resend) (log : List Entry) : Type 0 where
   pub stands : (view : ℕ) → stand_at table view ≡ stand_of log view
-  pub seqs : (view number : ℕ) → seq_in table.seqs view number ≡ option_map (λ entry. entry.seq) (view_event log view number)
+  pub seqs : (view number : ℕ)
+      → seq_in table.seqs view number ≡ option_map (λ entry. entry.seq) (view_event log view number)
   pub here : table.here_count ≡ here_count log
 
 -- what one noted, the other did

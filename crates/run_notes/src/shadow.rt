@@ -71,8 +71,8 @@ impl Shadow {
         let Some(world) = world else {
             return Ok(None);
         };
-        let skipped = log.after_time(world.time());
-        let last = log.after_time(until);
+        let skipped = log.count_until(world.time());
+        let last = log.count_until(until);
         Ok(Some(Shadow {
             log,
             world,

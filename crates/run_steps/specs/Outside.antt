@@ -6,15 +6,19 @@ use Rattle.tea_io.specs.Nets.{plus, AsksNet, NetCause}
 use Rattle.tea_io.specs.Sink.{GrowsWithin}
 use Rattle.tea_io.specs.Told.{with_more, Rose, TakesFirst}
 use Rattle.tea_io.specs.declared.files.FileCall.{FileCall}
+use Rattle.tea_io.specs.declared.files.Files.{Ghosts as OfFiles}
 use Rattle.tea_io.specs.declared.files.FileCall.TheVariants as call
 use Rattle.tea_io.specs.declared.link.Heard.{Heard}
+use Rattle.tea_io.specs.declared.link.Link.{Ghosts as OfLink}
 use Rattle.tea_io.specs.declared.link.Heard.TheVariants as heard
 use Rattle.tea_io.specs.declared.link.LinkFault.{LinkFault}
 use Rattle.tea_io.specs.declared.link.LinkFault.TheVariants as link_fault
+use Rattle.tea_io.specs.declared.net.Net.{Ghosts as OfNet}
 use Rattle.tea_io.specs.declared.net.NetCall.{NetCall}
 use Rattle.tea_io.specs.declared.net.NetCall.TheVariants as net_call
 use Rattle.tea_io.specs.declared.net.NetFault.{NetFault}
 use Rattle.tea_io.specs.declared.net.NetFault.TheVariants as net_fault
+use Rattle.tea_io.specs.declared.sink.Sink.{Ghosts as OfSink}
 use Rattle.run_steps.specs.Steps.{Ask, Step, Loads, Puts, Looks, Prints, Connects, Returns, Hears, Sends}
 
 -- the outside of a run, in one of its states: files, an output, a net, and the link that it gave and that is in use
@@ -66,45 +70,50 @@ pub record OutsideTells (F W N L : Type 0) : Type 0 where
   pub net : Option (NetTells N L)
   pub links : Option (LinksTell L)
 
-abbrev pub files_tell : {F : Type 0} → (F → List ℕ → Content) → (F → Option (List FileCall)) → (F → ℕ) → (F → ℕ) → FilesTell F
-files_tell held asked faults wants = record { held = held; asked = asked; faults = faults; wants = wants }
+-- each of them as its trait tells it
+abbrev pub files_tell : {F : Type 0} → OfFiles F → FilesTell F
+files_tell f = record { held = f.held; asked = f.asked; faults = f.faults; wants = f.wants }
 
-abbrev pub output_tells : {W : Type 0} → (W → Option (List ℕ)) → (W → ℕ) → (W → ℕ) → OutputTells W
-output_tells written faults wants = record { written = written; faults = faults; wants = wants }
+abbrev pub output_tells : {W : Type 0} → OfSink W → OutputTells W
+output_tells w = record { written = w.written; faults = w.faults; wants = w.wants }
 
-abbrev pub net_tells
-    : {N L : Type 0} → (N → Option (List L)) → (N → Option (List L)) → (N → Option (List NetCall)) → (N → ℕ) → (N → ℕ) → (N → Counts)
-    → NetTells N L
-net_tells coming over asked faults lent link_counts =
-    record { coming = coming; over = over; asked = asked; faults = faults; lent = lent; link_counts = link_counts }
+abbrev pub net_tells : {N L : Type 0} → OfNet N L → NetTells N L
+net_tells n = record {
+  coming = n.coming;
+  over = n.over;
+  asked = n.asked;
+  faults = n.faults;
+  lent = n.lent;
+  link_counts = n.link_counts;
+}
 
-abbrev pub links_tell
-    : {L : Type 0} → (L → Option (List (List ℕ))) → (L → Option (List Heard)) → (L → Option (List (List ℕ))) → (L → Counts) → LinksTell L
-links_tell coming heard sent counts = record { coming = coming; heard = heard; sent = sent; counts = counts }
+abbrev pub links_tell : {L : Type 0} → OfLink L → LinksTell L
+links_tell l = record { coming = l.coming; heard = l.heard; sent = l.sent; counts = l.counts }
 
 -- a run over files and an output alone
-abbrev pub desk_tells : {F W : Type 0} → FilesTell F → OutputTells W → OutsideTells F W ⊤ ⊤
-desk_tells files out = record { files = Some files; out = out; net = None; links = None }
+abbrev pub files_side_tells : {F W : Type 0} → FilesTell F → OutputTells W → OutsideTells F W ⊤ ⊤
+files_side_tells files out = record { files = Some files; out = out; net = None; links = None }
 
-abbrev pub desk : {F W : Type 0} → F → W → Outside F W ⊤ ⊤
-desk files out = outside files out tt None
+abbrev pub files_side : {F W : Type 0} → F → W → Outside F W ⊤ ⊤
+files_side files out = outside files out tt None
 
 -- over an output and a link alone
-abbrev pub window_tells : {W L : Type 0} → OutputTells W → LinksTell L → OutsideTells ⊤ W ⊤ L
-window_tells out links = record { files = None; out = out; net = None; links = Some links }
+abbrev pub link_side_tells : {W L : Type 0} → OutputTells W → LinksTell L → OutsideTells ⊤ W ⊤ L
+link_side_tells out links = record { files = None; out = out; net = None; links = Some links }
 
-abbrev pub window : {W L : Type 0} → W → L → Outside ⊤ W ⊤ L
-window out link = outside tt out tt (Some link)
+abbrev pub link_side : {W L : Type 0} → W → L → Outside ⊤ W ⊤ L
+link_side out link = outside tt out tt (Some link)
 
 -- over an output and a net
-abbrev pub booth_tells : {W N L : Type 0} → OutputTells W → NetTells N L → LinksTell L → OutsideTells ⊤ W N L
-booth_tells out net links = record { files = None; out = out; net = Some net; links = Some links }
+abbrev pub net_side_tells : {W N L : Type 0} → OutputTells W → NetTells N L → LinksTell L → OutsideTells ⊤ W N L
+net_side_tells out net links = record { files = None; out = out; net = Some net; links = Some links }
 
-abbrev pub booth : {W N L : Type 0} → W → N → Option L → Outside ⊤ W N L
-booth out net link = outside tt out net link
+abbrev pub net_side : {W N L : Type 0} → W → N → Option L → Outside ⊤ W N L
+net_side out net link = outside tt out net link
 
 -- over all
-abbrev pub outside_tells : {F W N L : Type 0} → FilesTell F → OutputTells W → NetTells N L → LinksTell L → OutsideTells F W N L
+abbrev pub outside_tells : {F W N L : Type 0} → FilesTell F → OutputTells W → NetTells N L → LinksTell L
+    → OutsideTells F W N L
 outside_tells files out net links = record { files = Some files; out = out; net = Some net; links = Some links }
 
 -- ---- one call
@@ -150,12 +159,14 @@ MayGive came content limit given = ⊤
 -- Bytes are put under a name, and all other names keep what they hold. Where the call failed, what this name holds is open; where
 -- memory was wanted, it keeps what it holds too.
 abbrev pub HeldAfter : Came → List ℕ → List ℕ → (List ℕ → Content) → (List ℕ → Content) → Type 0
-HeldAfter Well name bytes old new = Holds (old name) (new name) bytes × ((other : List ℕ) → other ≢ name → new other ≡ old other)
+HeldAfter Well name bytes old new =
+    Holds (old name) (new name) bytes × ((other : List ℕ) → other ≢ name → new other ≡ old other)
 HeldAfter Failed name bytes old new = (other : List ℕ) → other ≢ name → new other ≡ old other
 HeldAfter WantedMemory name bytes old new = AreKept old new
 
 -- a file is read: all names keep what they hold
-pub record ReadsFile {F : Type 0} (files : FilesTell F) (came : Came) (ask : Ask) (given : Option (List ℕ)) (old new : F) : Type 0 where
+pub record ReadsFile {F : Type 0} (files : FilesTell F) (came : Came) (ask : Ask) (given : Option (List ℕ))
+    (old new : F) : Type 0 where
   pub noted : Noted came (call.Read ask.name) (files.asked old) (files.asked new)
   pub counted : CountsFault came (files.faults old) (files.faults new)
   pub wanted : CountsWant came (files.wants old) (files.wants new)
@@ -201,11 +212,14 @@ net_answer WantedMemory = Err net_fault.WantOfMemory
 abbrev pub GivesLink : {N L : Type 0} → NetTells N L → LinksTell L → Came → N → N → Option L → Type 0
 GivesLink net links Well old new None = ⊥
 GivesLink net links Well old new (Some link) =
-    TakesFirst (net.coming old) (net.coming new) link × (links.counts link ≡ no_counts) × (net.lent new ≡ net.lent old + 1)
-GivesLink net links came old new link = (link ≡ None) × (net.coming new ≡ net.coming old) × (net.lent new ≡ net.lent old)
+    TakesFirst (net.coming old) (net.coming new) link × (links.counts link ≡ no_counts)
+    × (net.lent new ≡ net.lent old + 1)
+GivesLink net links came old new link = (link ≡ None) × (net.coming new ≡ net.coming old)
+    × (net.lent new ≡ net.lent old)
 
 -- a link to an address is made
-pub record MakesLink {N L : Type 0} (net : NetTells N L) (links : LinksTell L) (came : Came) (address : List ℕ) (old new : N) (link : Option L) : Type 0 where
+pub record MakesLink {N L : Type 0} (net : NetTells N L) (links : LinksTell L) (came : Came) (address : List ℕ)
+    (old new : N) (link : Option L) : Type 0 where
   pub gives : GivesLink net links came old new link
   pub over : net.over new ≡ net.over old
   pub counts : net.link_counts new ≡ net.link_counts old
@@ -277,12 +291,15 @@ GivesBack net links (Some link) old new = TakesBack net links link old new
 -- what a step does to the outside where its call came out so: one part of it moves, and the others stay as they are
 abbrev pub ActsOn : {F W N L : Type 0} → OutsideTells F W N L → Came → Step → Outside F W N L → Outside F W N L → Type 0
 ActsOn tells came (Loads ask given) old new =
-    OnPart tells.files (λ files. ReadsFile files came ask given old.files new.files) × (new ≡ record old { files = new.files })
+    OnPart tells.files (λ files. ReadsFile files came ask given old.files new.files)
+    × (new ≡ record old { files = new.files })
 ActsOn tells came (Puts name bytes) old new =
-    OnPart tells.files (λ files. PutsFile files came name bytes old.files new.files) × (new ≡ record old { files = new.files })
+    OnPart tells.files (λ files. PutsFile files came name bytes old.files new.files)
+    × (new ≡ record old { files = new.files })
 ActsOn tells came (Looks name) old new =
     OnPart tells.files (λ files. LooksAt files came name old.files new.files) × (new ≡ record old { files = new.files })
-ActsOn tells came (Prints text) old new = PrintsText tells.out came text old.out new.out × (new ≡ record old { out = new.out })
+ActsOn tells came (Prints text) old new =
+    PrintsText tells.out came text old.out new.out × (new ≡ record old { out = new.out })
 ActsOn tells came (Connects address) old new =
     (old.link ≡ None)
     × OnPart tells.net (λ net. OnPart tells.links (λ links. MakesLink net links came address old.net new.net new.link))
@@ -292,9 +309,11 @@ ActsOn tells came Returns old new =
     × OnPart tells.net (λ net. OnPart tells.links (λ links. GivesBack net links old.link old.net new.net))
     × (new ≡ record old { net = new.net; link = None })
 ActsOn tells came (Hears what) old new =
-    OnPart tells.links (λ links. OnLink (HearsLink links came what) old.link new.link) × (new ≡ record old { link = new.link })
+    OnPart tells.links (λ links. OnLink (HearsLink links came what) old.link new.link)
+    × (new ≡ record old { link = new.link })
 ActsOn tells came (Sends frame) old new =
-    OnPart tells.links (λ links. OnLink (SendsFrame links came frame) old.link new.link) × (new ≡ record old { link = new.link })
+    OnPart tells.links (λ links. OnLink (SendsFrame links came frame) old.link new.link)
+    × (new ≡ record old { link = new.link })
 
 -- ---- steps
 
@@ -304,7 +323,8 @@ pub record Cut : Type 0 where
   pub came : Came
 
 -- Steps are done, one after the other. One that fails or wants memory cuts them: no other is done.
-abbrev pub Acts : {F W N L : Type 0} → OutsideTells F W N L → List Step → Option Cut → Outside F W N L → Outside F W N L → Type 0
+abbrev pub Acts : {F W N L : Type 0} → OutsideTells F W N L → List Step → Option Cut → Outside F W N L → Outside F W N L
+    → Type 0
 Acts tells [] None old new = new ≡ old
 Acts tells [] (Some cut) old new = ⊥
 Acts {F = F} {W = W} {N = N} {L = L} tells (step ∷ steps) cut old new =
@@ -312,7 +332,8 @@ Acts {F = F} {W = W} {N = N} {L = L} tells (step ∷ steps) cut old new =
     ⊎ ((ActsOn tells Failed step old new × (cut ≡ Some (record { step = step; came = Failed })))
     ⊎ (ActsOn tells WantedMemory step old new × (cut ≡ Some (record { step = step; came = WantedMemory }))))
 
-abbrev pub GoesBackFrom : {F W N L : Type 0} → Option L → OutsideTells F W N L → Outside F W N L → Outside F W N L → Type 0
+abbrev pub GoesBackFrom : {F W N L : Type 0} → Option L → OutsideTells F W N L → Outside F W N L → Outside F W N L
+    → Type 0
 GoesBackFrom None tells old new = new ≡ old
 GoesBackFrom (Some link) tells old new = ActsOn tells Well Returns old new
 

@@ -19,7 +19,8 @@ pub fn read_file<F: Files>(
     name: &Text,
     limit: u64,
 ) -> Result<Option<Blob>, CallFault>
-    ensures { ReadsFile (files_tell F.held F.asked F.faults F.wants) (came_of result) (record { name = name.now; limit = limit }) (given_of result) files.old files.new }
+    ensures { ReadsFile (files_tell F.Files) (came_of result) (record { name = name.now; limit = limit })
+        (given_of result) files.old files.new }
 {
     match files.read(name, limit) {
         Ok(bytes) => Ok(Some(bytes)),
@@ -31,7 +32,7 @@ pub fn read_file<F: Files>(
 
 /// Puts bytes under a name.
 pub fn put_file<F: Files>(files: &mut F, name: &Text, bytes: &[u8]) -> Result<(), CallFault>
-    ensures { PutsFile (files_tell F.held F.asked F.faults F.wants) (came_of result) name.now bytes.now files.old files.new }
+    ensures { PutsFile (files_tell F.Files) (came_of result) name.now bytes.now files.old files.new }
 {
     match files.write(name, bytes) {
         Ok(()) => Ok(()),
@@ -44,7 +45,7 @@ pub fn put_file<F: Files>(files: &mut F, name: &Text, bytes: &[u8]) -> Result<()
 
 /// Looks whether bytes can be put under a name.
 pub fn look_at<F: Files>(files: &mut F, name: &Text) -> Result<(), CallFault>
-    ensures { LooksAt (files_tell F.held F.asked F.faults F.wants) (came_of result) name.now files.old files.new }
+    ensures { LooksAt (files_tell F.Files) (came_of result) name.now files.old files.new }
 {
     match files.look(name) {
         Ok(()) => Ok(()),
@@ -57,7 +58,7 @@ pub fn look_at<F: Files>(files: &mut F, name: &Text) -> Result<(), CallFault>
 
 /// Prints a text.
 pub fn print_text<W: Sink>(out: &mut W, text: &[u8]) -> Result<(), CallFault>
-    ensures { PrintsText (output_tells W.written W.faults W.wants) (came_of result) text.now out.old out.new }
+    ensures { PrintsText (output_tells W.Sink) (came_of result) text.now out.old out.new }
 {
     match out.write(text) {
         Ok(()) => Ok(()),
@@ -69,9 +70,7 @@ pub fn print_text<W: Sink>(out: &mut W, text: &[u8]) -> Result<(), CallFault>
 /// Makes a link to an address.
 pub fn connect<N: Net>(net: &mut N, address: &Text) -> Result<N::Conn, CallFault>
     ensures { MakesLink
-        (net_tells N.coming N.over N.asked N.faults N.lent N.link_counts)
-        (links_tell N.Conn.coming N.Conn.heard N.Conn.sent N.Conn.counts)
-        (came_of result) address.now net.old net.new (made_of result) }
+        (net_tells N.Net) (links_tell N.Conn.Link) (came_of result) address.now net.old net.new (made_of result) }
 {
     match net.connect(address) {
         Ok(link) => Ok(link),
@@ -82,7 +81,7 @@ pub fn connect<N: Net>(net: &mut N, address: &Text) -> Result<N::Conn, CallFault
 
 /// Sends a frame.
 pub fn send_frame<L: Link>(link: &mut L, frame: &[u8]) -> Result<(), CallFault>
-    ensures { SendsFrame (links_tell L.coming L.heard L.sent L.counts) (came_of result) frame.now link.old link.new }
+    ensures { SendsFrame (links_tell L.Link) (came_of result) frame.now link.old link.new }
 {
     match link.send(frame) {
         Ok(()) => Ok(()),

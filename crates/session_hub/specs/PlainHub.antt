@@ -58,7 +58,8 @@ has_answered hub id outcome = with_hub_reply (with_session hub id outcome.sessio
 -- the answer to a request to the session of this id
 abbrev pub hub_answer : PlainHub → List ℕ → Request → HubOutcome
 hub_answer hub id request =
-    if is_full hub id then with_hub_reply hub (HubFull (length hub)) else has_answered hub id (answer (session_of hub id) request)
+    if is_full hub id then with_hub_reply hub (HubFull (length hub))
+    else has_answered hub id (answer (session_of hub id) request)
 
 -- the requests that may want memory: of a session that was made those that it may want memory for, and each that makes one
 abbrev pub MayWantSession : Option PlainSession → Request → Type 0

@@ -115,7 +115,8 @@ impl Hub {
 
     /// The session before which so many were made, if it was made. Takes no memory.
     pub fn made(&self, place: u32) -> Option<&Session>
-        ensures { option_map (λ (s : Bor SessionState). s.now.plain) result ≡ option_map (λ held. held.session) (slice_get self.now place) }
+        ensures { option_map (λ (s : Bor SessionState). s.now.plain) result
+            ≡ option_map (λ held. held.session) (slice_get self.now place) }
     {
         match self.held.get(place as usize) {
             Some(held) => Some(&held.session),

@@ -33,7 +33,8 @@ founding_spelling id s = journal_spelling id (founding_changes s)
 
 -- a journal that was founded so is read as that session, and whole
 abbrev pub FoundsSession : List ℕ → PlainStored → Type 0
-FoundsSession id s = read_journal id (founding_spelling id s) ≡ Goes (record { state = s; check = journal_check id (founding_changes s); rest = [] })
+FoundsSession id s = read_journal id (founding_spelling id s)
+    ≡ Goes (record { state = s; check = journal_check id (founding_changes s); rest = [] })
 
 -- a draft has these records more
 pub record Adds (old new : Draft) (changes : List Change) : Type 0 where

@@ -75,7 +75,8 @@ pub record ReadsWhole (id : List ℕ) (changes : List Change) (n : ℕ) : Type 0
   pub all : changes ≡ whole ++ cut
   pub spelled : take n (records_spelling (first_check id) changes) ≡ records_spelling (first_check id) whole ++ torn
   pub short : (next : Change) (rest : List Change) → cut ≡ next ∷ rest →
-      length (records_spelling (first_check id) whole ++ torn) < length (records_spelling (first_check id) (whole ++ next ∷ []))
+      length (records_spelling (first_check id) whole ++ torn)
+      < length (records_spelling (first_check id) (whole ++ next ∷ []))
   pub none : cut ≡ [] → torn ≡ []
   pub read : read_journal id (header id ++ take n (records_spelling (first_check id) changes))
       ≡ Goes (record { state = journal_after founded whole; check = journal_check id whole; rest = torn })
@@ -86,7 +87,11 @@ pub record ReadsFirst (id : List ℕ) (changes : List Change) (tail : List ℕ) 
   pub torn : List ℕ
   pub goes : GoesOn (journal_after founded changes) more
   pub read : read_journal id (journal_spelling id changes ++ tail)
-      ≡ Goes (record { state = journal_after founded (changes ++ more); check = journal_check id (changes ++ more); rest = torn })
+      ≡ Goes (record {
+        state = journal_after founded (changes ++ more);
+        check = journal_check id (changes ++ more);
+        rest = torn;
+      })
   pub spelled : journal_spelling id changes ++ tail ≡ journal_spelling id (changes ++ more) ++ torn
 
 -- what is read is the session after changes that may come, spelled so at the front of the bytes

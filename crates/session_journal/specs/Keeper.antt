@@ -32,7 +32,8 @@ pub record KeeperState : Type 0 where
   pub shut : Bool
 
 -- The bytes, safe or not, are the journal of this session, unless a call of the store has failed. They are safe where none was added since.
-pub record Writes (id : List ℕ) (told : Option (List ℕ)) (safe : ℕ) (keeper : KeeperState) (state : PlainStored) : Type 0 where
+pub record Writes (id : List ℕ) (told : Option (List ℕ)) (safe : ℕ) (keeper : KeeperState)
+    (state : PlainStored) : Type 0 where
   pub changes : List Change
   pub goes : GoesOn founded changes
   pub state_is : journal_after founded changes ≡ state
@@ -44,7 +45,13 @@ pub record Writes (id : List ℕ) (told : Option (List ℕ)) (safe : ℕ) (keepe
 
 abbrev pub keeper_state : {S : Type 0} → Journal S → KeeperState
 keeper_state journal =
-    record { check = journal.check; len = journal.len; horizon = journal.horizon; dirty = journal.dirty; shut = journal.shut }
+    record {
+      check = journal.check;
+      len = journal.len;
+      horizon = journal.horizon;
+      dirty = journal.dirty;
+      shut = journal.shut;
+    }
 
 -- the store of this journal keeps this session
 abbrev pub IsKeptBy : {S : Type 0} → (S → Option (List ℕ)) → (S → ℕ) → List ℕ → Journal S → PlainStored → Type 0
@@ -52,11 +59,13 @@ IsKeptBy told safe id journal state = Keeps id (told journal.store) (safe journa
 
 -- all that was written to it is this session
 abbrev pub IsWrittenBy : {S : Type 0} → (S → Option (List ℕ)) → (S → ℕ) → List ℕ → Journal S → PlainStored → Type 0
-IsWrittenBy told safe id journal state = Writes id (told journal.store) (safe journal.store) (keeper_state journal) state
+IsWrittenBy told safe id journal state =
+    Writes id (told journal.store) (safe journal.store) (keeper_state journal) state
 
 -- whatever session it kept, it keeps still
 abbrev pub KeepsStill : {S : Type 0} → (S → Option (List ℕ)) → (S → ℕ) → Journal S → Journal S → Type 0
-KeepsStill told safe old new = (id : List ℕ) (s : PlainStored) → IsKeptBy told safe id old s → IsKeptBy told safe id new s
+KeepsStill told safe old new = (id : List ℕ) (s : PlainStored) → IsKeptBy told safe id old s
+    → IsKeptBy told safe id new s
 
 -- how far the horizon of a journal is written ahead of a tick, in microseconds: not past the end of time, unless the tick is
 abbrev pub lease : ℕ → ℕ

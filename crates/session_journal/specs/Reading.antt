@@ -19,4 +19,5 @@ read_place read = place_of read.stored read.check read.torn.now
 -- what the first record says, its check, and the bytes after it
 abbrev pub record_at : List ℕ → List ℕ → Option (Change × (List ℕ × List ℕ))
 record_at before bytes =
-    frame_at record_check before bytes >>= λ x. whole change_at x.0 >>= λ change. Some (change, (record_check before x.0, x.1))
+    frame_at record_check before bytes >>= λ x. whole change_at x.0 >>= λ change.
+    Some (change, (record_check before x.0, x.1))

@@ -91,7 +91,8 @@ fn kept_head(time: u64, len: u32) -> [u8; 17]
 /// The head of an entry's record.
 fn came_head(time: u64, view: u32, what: LentWhat<'_>) -> Head
     requires { FitsBlob (change_spelling (Came time view (lent_what what))) }
-    ensures { head_bytes result ++ payload_of (Came time view (lent_what what.entry)) ≡ blob (change_spelling (Came time view (lent_what what.entry))) }
+    ensures { head_bytes result ++ payload_of (Came time view (lent_what what.entry))
+        ≡ blob (change_spelling (Came time view (lent_what what.entry))) }
 {
     match what {
         LentWhat::Join => Head::Presence(presence_head(time, view, 1)),
@@ -108,7 +109,8 @@ fn came_head(time: u64, view: u32, what: LentWhat<'_>) -> Head
 /// The head of a record. Takes no memory.
 pub fn head_of(change: LentChange<'_>) -> Head
     requires { FitsBlob (change_spelling (lent_change change)) }
-    ensures { head_bytes result ++ payload_of (lent_change change.entry) ≡ blob (change_spelling (lent_change change.entry)) }
+    ensures { head_bytes result ++ payload_of (lent_change change.entry)
+        ≡ blob (change_spelling (lent_change change.entry)) }
 {
     match change {
         LentChange::Came { time, view, what } => came_head(time, view, what),

@@ -88,8 +88,10 @@ fn append_joined<S: Store>(
     check: &[u8],
 ) -> Result<(), StoreFault>
     requires { length head.now + length payload.now + length check.now ≤ 4130 }
-    ensures ok { OnOk result (S.bytes store.new ≡ with_more (S.bytes store.old) (head.now ++ (payload.now ++ check.now))) }
-    ensures part { OnErr result (GrowsWithin (S.bytes store.old) (S.bytes store.new) (head.now ++ (payload.now ++ check.now))) }
+    ensures ok { OnOk result (S.bytes store.new
+        ≡ with_more (S.bytes store.old) (head.now ++ (payload.now ++ check.now))) }
+    ensures part { OnErr result (GrowsWithin (S.bytes store.old) (S.bytes store.new)
+        (head.now ++ (payload.now ++ check.now))) }
     ensures safe { S.safe store.new ≡ S.safe store.old }
     ensures cause { StoreCause (S.faults store.old) (S.faults store.new) result }
 {
@@ -103,8 +105,10 @@ fn append_pieces<S: Store>(
     payload: &[u8],
     check: &[u8],
 ) -> Result<(), StoreFault>
-    ensures ok { OnOk result (S.bytes store.new ≡ with_more (S.bytes store.old) (head.now ++ (payload.now ++ check.now))) }
-    ensures part { OnErr result (GrowsWithin (S.bytes store.old) (S.bytes store.new) (head.now ++ (payload.now ++ check.now))) }
+    ensures ok { OnOk result (S.bytes store.new
+        ≡ with_more (S.bytes store.old) (head.now ++ (payload.now ++ check.now))) }
+    ensures part { OnErr result (GrowsWithin (S.bytes store.old) (S.bytes store.new)
+        (head.now ++ (payload.now ++ check.now))) }
     ensures safe { S.safe store.new ≡ S.safe store.old }
     ensures cause { StoreCause (S.faults store.old) (S.faults store.new) result }
 {
@@ -121,8 +125,10 @@ fn append<S: Store>(
     check: &[u8],
 ) -> Result<(), StoreFault>
     requires { length head.now + length payload.now + length check.now < 2 ^ 64 }
-    ensures ok { OnOk result (S.bytes store.new ≡ with_more (S.bytes store.old) (head.now ++ (payload.now ++ check.now))) }
-    ensures part { OnErr result (GrowsWithin (S.bytes store.old) (S.bytes store.new) (head.now ++ (payload.now ++ check.now))) }
+    ensures ok { OnOk result (S.bytes store.new
+        ≡ with_more (S.bytes store.old) (head.now ++ (payload.now ++ check.now))) }
+    ensures part { OnErr result (GrowsWithin (S.bytes store.old) (S.bytes store.new)
+        (head.now ++ (payload.now ++ check.now))) }
     ensures safe { S.safe store.new ≡ S.safe store.old }
     ensures cause { StoreCause (S.faults store.old) (S.faults store.new) result }
 {
@@ -139,16 +145,20 @@ impl<S: Store> Journal<S> {
     pub fn open(store: S, read: &Read<'_>) -> Result<Journal<S>, Unopened<S>>
         // The store's safe bytes are the journal of the session that was read.
         ensures keeps { IfOk result (λ journal. (id bytes : List ℕ) → TellsOnly (S.bytes store) bytes → AreBytes bytes →
-            read_journal id bytes ≡ Goes (read_place read.now) → read.now.good ≡ length bytes - length read.now.torn.now →
+            read_journal id bytes ≡ Goes (read_place read.now) → read.now.good ≡ length bytes - length read.now.torn.now
+            →
             IsKeptBy S.bytes S.safe id journal (plain_stored read.now.stored)) }
         // So are all its bytes.
-        ensures writes { IfOk result (λ journal. (id bytes : List ℕ) → TellsOnly (S.bytes store) bytes → AreBytes bytes →
-            read_journal id bytes ≡ Goes (read_place read.now) → read.now.good ≡ length bytes - length read.now.torn.now →
+        ensures writes { IfOk result (λ journal. (id bytes : List ℕ) → TellsOnly (S.bytes store) bytes → AreBytes bytes
+            →
+            read_journal id bytes ≡ Goes (read_place read.now) → read.now.good ≡ length bytes - length read.now.torn.now
+            →
             IsWrittenBy S.bytes S.safe id journal (plain_stored read.now.stored)) }
         ensures unshut { IfOk result (λ journal. (journal.shut ≡ false) × (journal.dirty ≡ false)) }
         ensures since { IfOk result (λ journal. journal.since ≡ read.now.good) }
         ensures faults { IfOk result (λ journal. S.faults store ≤ S.faults journal.store) }
-        ensures err { IfErr result (λ unopened. MayBeCut read.now.good (S.bytes store) (S.bytes unopened.store) (S.safe store) (S.safe unopened.store)) }
+        ensures err { IfErr result (λ unopened.
+            MayBeCut read.now.good (S.bytes store) (S.bytes unopened.store) (S.safe store) (S.safe unopened.store)) }
         ensures cause { IfErr result (λ unopened. Rose (S.faults store) (S.faults unopened.store)) }
     {
         let mut store = store;
@@ -174,17 +184,21 @@ impl<S: Store> Journal<S> {
         requires unshut { self.old.shut ≡ false }
         requires head { 4 ≤ length head.now }
         requires fits { length head.now + length payload.now < 2 ^ 33 }
-        ensures written { OnOk result ((id : List ℕ) (s : PlainStored) (c : Change) → IsWrittenBy S.bytes S.safe id self.old s →
-            head.now ++ payload.now ≡ blob (change_spelling c) → IsTypedChange c → may_come s c ≡ true → horizon ≡ horizon_after s.horizon c →
+        ensures written { OnOk result ((id : List ℕ) (s : PlainStored) (c : Change)
+            → IsWrittenBy S.bytes S.safe id self.old s →
+            head.now ++ payload.now ≡ blob (change_spelling c) → IsTypedChange c → may_come s c ≡ true
+            → horizon ≡ horizon_after s.horizon c →
             IsWrittenBy S.bytes S.safe id self.new (after_change s c)) }
         ensures kept { KeepsStill S.bytes S.safe self.old self.new }
-        ensures full { result ≡ Err KeepFault.Full → (most_journal < self.old.len + (length head.now + length payload.now + 8)) × (self.new ≡ self.old) }
+        ensures full { result ≡ Err KeepFault.Full
+            → (most_journal < self.old.len + (length head.now + length payload.now + 8)) × (self.new ≡ self.old) }
         ensures room { OnOk result (self.old.len + (length head.now + length payload.now + 8) ≤ most_journal) }
         ensures unshut { OnOk result (self.new.shut ≡ false) }
         ensures len { OnOk result (self.new.len ≡ self.old.len + (length head.now + length payload.now + 8)) }
         ensures since { self.new.since ≡ self.old.since }
         ensures horizon { OnOk result (self.new.horizon ≡ horizon) }
-        ensures cause { result ≡ Err KeepFault.Unkept → (self.new.shut ≡ true) × Rose (S.faults self.old.store) (S.faults self.new.store) }
+        ensures cause { result ≡ Err KeepFault.Unkept → (self.new.shut ≡ true)
+            × Rose (S.faults self.old.store) (S.faults self.new.store) }
         ensures later { S.faults self.old.store ≤ S.faults self.new.store }
     {
         let record = (head.len() + payload.len()) as u64 + 8;
@@ -217,10 +231,12 @@ impl<S: Store> Journal<S> {
             IsWrittenBy S.bytes S.safe id self.new (after_change s (lent_change change.entry))) }
         // What the safe ones were the journal of, they are still.
         ensures kept { KeepsStill S.bytes S.safe self.old self.new }
-        ensures full { result ≡ Err KeepFault.Full → (most_journal < self.old.len + record_len (lent_change change.entry)) × (self.new ≡ self.old) }
+        ensures full { result ≡ Err KeepFault.Full
+            → (most_journal < self.old.len + record_len (lent_change change.entry)) × (self.new ≡ self.old) }
         ensures room { OnOk result (self.old.len + record_len (lent_change change.entry) ≤ most_journal) }
         ensures horizon { OnOk result (self.new.horizon ≡ horizon_after self.old.horizon (lent_change change.entry)) }
-        ensures since { OnOk result (self.new.since ≡ since_after self.old.since self.new.len (lent_change change.entry)) }
+        ensures since { OnOk result (self.new.since
+            ≡ since_after self.old.since self.new.len (lent_change change.entry)) }
         // After a failed call nothing is written.
         ensures shut { self.old.shut ≡ true → (result ≡ Err KeepFault.Unkept) × (self.new ≡ self.old) }
         ensures unshut { OnOk result (self.new.shut ≡ false) }
@@ -233,25 +249,23 @@ impl<S: Store> Journal<S> {
         }
         let head = head_of(change);
         let horizon = horizon_after(self.horizon, change);
-        match self.add(head.bytes(), payload_of(change), horizon) {
-            Err(fault) => Err(fault),
-            Ok(()) => {
-                self.since = since_after(self.since, self.len, change);
-                Ok(())
-            }
-        }
+        self.add(head.bytes(), payload_of(change), horizon)?;
+        self.since = since_after(self.since, self.len, change);
+        Ok(())
     }
 
     /// Writes that a tick of this time may be told: a horizon is written ahead, unless one is that reaches so far. Takes no
     /// memory.
     pub fn reach(&mut self, time: u64) -> Result<(), KeepFault>
         ensures written { OnOk result ((id : List ℕ) (s : PlainStored) → IsWrittenBy S.bytes S.safe id self.old s →
-            has_room (plain_of s.log (lease time) s.kept) ≡ true → IsWrittenBy S.bytes S.safe id self.new (reached_to time s)) }
+            has_room (plain_of s.log (lease time) s.kept) ≡ true
+            → IsWrittenBy S.bytes S.safe id self.new (reached_to time s)) }
         ensures reached { OnOk result (time ≤ self.new.horizon) }
         // A tick that is within what is written writes nothing.
         ensures within { self.old.shut ≡ false → time ≤ self.old.horizon → (result ≡ Ok tt) × (self.new ≡ self.old) }
         ensures kept { KeepsStill S.bytes S.safe self.old self.new }
-        ensures full { result ≡ Err KeepFault.Full → (most_journal < self.old.len + record_len (Reached (lease time))) × (self.new ≡ self.old) }
+        ensures full { result ≡ Err KeepFault.Full → (most_journal < self.old.len + record_len (Reached (lease time)))
+            × (self.new ≡ self.old) }
         ensures shut { self.old.shut ≡ true → (result ≡ Err KeepFault.Unkept) × (self.new ≡ self.old) }
         ensures unshut { OnOk result (self.new.shut ≡ false) }
         ensures cause { result ≡ Err KeepFault.Unkept → (self.new.shut ≡ true)
@@ -270,8 +284,10 @@ impl<S: Store> Journal<S> {
     /// again.
     pub fn sync(&mut self) -> Result<(), Unsynced>
         // What all its bytes were the journal of, the safe ones are.
-        ensures synced { OnOk result ((id : List ℕ) (s : PlainStored) → IsWrittenBy S.bytes S.safe id self.old s → IsKeptBy S.bytes S.safe id self.new s) }
-        ensures written { OnOk result ((id : List ℕ) (s : PlainStored) → IsWrittenBy S.bytes S.safe id self.old s → IsWrittenBy S.bytes S.safe id self.new s) }
+        ensures synced { OnOk result ((id : List ℕ) (s : PlainStored) → IsWrittenBy S.bytes S.safe id self.old s
+            → IsKeptBy S.bytes S.safe id self.new s) }
+        ensures written { OnOk result ((id : List ℕ) (s : PlainStored) → IsWrittenBy S.bytes S.safe id self.old s
+            → IsWrittenBy S.bytes S.safe id self.new s) }
         ensures clean { OnOk result ((self.new.dirty ≡ false) × (self.new.shut ≡ false)) }
         ensures kept { OnErr result (KeepsStill S.bytes S.safe self.old self.new) }
         ensures len { self.new.len ≡ self.old.len }
@@ -302,7 +318,8 @@ impl<S: Store> Journal<S> {
     pub fn is_synced(&self) -> bool
         ensures is { result ≡ (not self.now.shut && not self.now.dirty) }
         ensures open { result ≡ true → self.now.shut ≡ false }
-        ensures synced { result ≡ true → (id : List ℕ) (s : PlainStored) → IsWrittenBy S.bytes S.safe id self.now s → IsKeptBy S.bytes S.safe id self.now s }
+        ensures synced { result ≡ true → (id : List ℕ) (s : PlainStored) → IsWrittenBy S.bytes S.safe id self.now s
+            → IsKeptBy S.bytes S.safe id self.now s }
     {
         if self.shut {
             return false;

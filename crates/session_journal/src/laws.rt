@@ -16,7 +16,8 @@ pub fn front_reads_whole_records()
 
 /// A journal with any bytes after it is first read as what it is alone.
 pub fn own_records_are_read_first()
-    ensures { (id : List ℕ) (changes : List Change) (tail : List ℕ) → GoesOn founded changes → AreBytes tail → ReadsFirst id changes tail }
+    ensures { (id : List ℕ) (changes : List Change) (tail : List ℕ) → GoesOn founded changes → AreBytes tail
+        → ReadsFirst id changes tail }
 {}
 
 /// What is read is spelled so: the reader makes nothing up, and passes nothing over.
@@ -26,7 +27,8 @@ pub fn what_is_read_is_spelled()
 
 /// What is read is a stored session, so one can be opened on it.
 pub fn what_is_read_may_be_opened()
-    ensures { (id bytes : List ℕ) → AreBytes bytes → (read : Place PlainStored) → read_journal id bytes ≡ Goes read → IsStored read.state }
+    ensures { (id bytes : List ℕ) → AreBytes bytes → (read : Place PlainStored) → read_journal id bytes ≡ Goes read
+        → IsStored read.state }
 {}
 
 /// Whatever an end leaves of a store, by a kill or a loss of power, is read as the session that was kept, or as one that goes on

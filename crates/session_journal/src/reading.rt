@@ -66,8 +66,11 @@ fn take_entry(
     entry: LentLogEntry<'_>,
 ) -> Result<bool, WantOfMemory>
     requires { TellsLog tally.old stored.old.log.entries }
-    ensures may { IfOk result (λ took. took ≡ may_come (plain_stored stored.old) (Came entry.entry.time entry.entry.view (lent_what entry.entry.what))) }
-    ensures took { result ≡ Ok true → plain_stored stored.new ≡ after_change (plain_stored stored.old) (Came entry.entry.time entry.entry.view (lent_what entry.entry.what)) }
+    ensures may { IfOk result (λ took. took
+        ≡ may_come (plain_stored stored.old) (Came entry.entry.time entry.entry.view (lent_what entry.entry.what))) }
+    ensures took { result ≡ Ok true
+        → plain_stored stored.new ≡ after_change (plain_stored stored.old)
+        (Came entry.entry.time entry.entry.view (lent_what entry.entry.what)) }
     ensures told { result ≡ Ok true → TellsLog tally.new stored.new.log.entries }
     ensures left { result ≡ Ok false → plain_stored stored.new ≡ plain_stored stored.old }
 {
@@ -93,7 +96,8 @@ fn take(
 ) -> Result<bool, WantOfMemory>
     requires { TellsLog tally.old stored.old.log.entries }
     ensures may { IfOk result (λ took. took ≡ may_come (plain_stored stored.old) (lent_change change.entry)) }
-    ensures took { result ≡ Ok true → plain_stored stored.new ≡ after_change (plain_stored stored.old) (lent_change change.entry) }
+    ensures took { result ≡ Ok true
+        → plain_stored stored.new ≡ after_change (plain_stored stored.old) (lent_change change.entry) }
     ensures told { result ≡ Ok true → TellsLog tally.new stored.new.log.entries }
     ensures left { result ≡ Ok false → plain_stored stored.new ≡ plain_stored stored.old }
 {

@@ -58,7 +58,8 @@ GoesWell P session (x ∷ xs) = (IsSoundSession session × P session) × GoesWel
 
 -- after one item more the session is sound, and this is so of it if it was
 abbrev pub GoesWellWith : (PlainSession → Type 0) → PlainSession → Item → Type 0
-GoesWellWith P session x = IsSoundSession (after_item session x) × (IsSoundSession session → P session → P (after_item session x))
+GoesWellWith P session x = IsSoundSession (after_item session x)
+    × (IsSoundSession session → P session → P (after_item session x))
 
 abbrev pub is_unkept : Item → Bool
 is_unkept (Did caller request) = false
@@ -101,7 +102,8 @@ calls_of callers (x ∷ xs) = if has (caller_of x) callers then x ∷ calls_of c
 
 -- the calls of each of these callers by itself are the same in both histories, in their order
 abbrev pub SameCallsOfEach : List ℕ → List Item → List Item → Type 0
-SameCallsOfEach callers seen history = (n : ℕ) → has n callers ≡ true → calls_of (n ∷ []) history ≡ calls_of (n ∷ []) seen
+SameCallsOfEach callers seen history =
+    (n : ℕ) → has n callers ≡ true → calls_of (n ∷ []) history ≡ calls_of (n ∷ []) seen
 
 -- the history begins with what was seen, and then has no item of these callers
 abbrev pub Saw : List ℕ → List Item → List Item → Type 0

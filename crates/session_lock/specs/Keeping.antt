@@ -23,7 +23,8 @@ pub record HoldsPlay (holds : PlainSession → Type 0) (opening : PlainSession) 
 
 -- What the keeper holds covers the play of the history. It is shut only if its faults have risen above the count that it
 -- began with. A call was Unkept only if it is shut, and nothing changed after that call.
-pub record KeepsPlay {K : Type 0} (holds : K → PlainSession → Type 0) (shut : K → Type 0) (faults : K → ℕ) (first : ℕ) (opening : PlainSession) (history : List Item) (keeper : K) : Type 0 where
+pub record KeepsPlay {K : Type 0} (holds : K → PlainSession → Type 0) (shut : K → Type 0) (faults : K → ℕ) (first : ℕ)
+    (opening : PlainSession) (history : List Item) (keeper : K) : Type 0 where
   pub plays : HoldsPlay (holds keeper) opening history
   pub later : first ≤ faults keeper
   pub shuts : shut keeper → Rose first (faults keeper)
@@ -43,7 +44,9 @@ pub record GoesBack (mark : Mark) (s earlier : PlainSession) : Type 0 where
 -- The session was asked all items of the history, and those that are pending behind it. The first of these are safe: what the keeper holds
 -- covers the session behind them, to which it goes back by its mark. What is written covers it as it is, unless a call has failed. Once
 -- something was lost nothing is pending, and the keeper is shut.
-pub record KeepsHoped {K : Type 0} (holds writes : K → PlainSession → Type 0) (shut : K → Type 0) (faults : K → ℕ) (first : ℕ) (opening : PlainSession) (history pending : List Item) (lost : Bool) (kept : KeptSession K) : Type 0 where
+pub record KeepsHoped {K : Type 0} (holds writes : K → PlainSession → Type 0) (shut : K → Type 0) (faults : K → ℕ)
+    (first : ℕ) (opening : PlainSession) (history pending : List Item) (lost : Bool)
+    (kept : KeptSession K) : Type 0 where
   pub plays : kept.session ≡ play_from opening (history ++ pending)
   pub done : kept.done ≡ length history
   pub asked : kept.asked ≡ length history + length pending
@@ -75,7 +78,9 @@ pub record CanGoBack {K : Type 0} (kept : KeptSession K) : Type 0 where
 
 -- The same where the session was asked one item more, which its counts do not tell yet. Where the keeper has settled all, the session need not
 -- go back.
-pub record WasAsked {K : Type 0} (holds writes : K → PlainSession → Type 0) (settled : K → Bool) (shut : K → Type 0) (faults : K → ℕ) (first : ℕ) (opening : PlainSession) (history pending : List Item) (lost : Bool) (item : Item) (kept : KeptSession K) : Type 0 where
+pub record WasAsked {K : Type 0} (holds writes : K → PlainSession → Type 0) (settled : K → Bool) (shut : K → Type 0)
+    (faults : K → ℕ) (first : ℕ) (opening : PlainSession) (history pending : List Item) (lost : Bool) (item : Item)
+    (kept : KeptSession K) : Type 0 where
   pub plays : kept.session ≡ play_from opening (history ++ (pending ++ item ∷ []))
   pub now_sound : IsSoundSession kept.session
   pub done : kept.done ≡ length history
@@ -87,8 +92,10 @@ pub record WasAsked {K : Type 0} (holds writes : K → PlainSession → Type 0) 
   pub safe : kept.safe ≡ length history + length sure
   pub sound : IsSoundSession (play_from opening (history ++ sure))
   pub held : HoldsPlay (holds kept.keeper) opening (history ++ sure) ⊎ ((settled kept.keeper ≡ true) × (lost ≡ false))
-  pub written : lost ≡ false → (shut kept.keeper → ⊥) → HoldsPlay (writes kept.keeper) opening (history ++ (pending ++ item ∷ []))
-  pub back : GoesBack kept.mark kept.session (play_from opening (history ++ sure)) ⊎ ((settled kept.keeper ≡ true) × (lost ≡ false))
+  pub written : lost ≡ false → (shut kept.keeper → ⊥)
+      → HoldsPlay (writes kept.keeper) opening (history ++ (pending ++ item ∷ []))
+  pub back : GoesBack kept.mark kept.session (play_from opening (history ++ sure))
+      ⊎ ((settled kept.keeper ≡ true) × (lost ≡ false))
   pub gone : lost ≡ true → (pending ≡ []) × (shut kept.keeper × (kept.session ≡ play_from opening history))
   pub later : first ≤ faults kept.keeper
   pub shuts : shut kept.keeper → Rose first (faults kept.keeper)
@@ -104,15 +111,19 @@ pub record IsFirstKept {K : Type 0} (kept : KeptSession K) (s : PlainSession) (k
   pub whole : kept.lost ≡ false
 
 -- How the session was asked first. With no place the item stands in the history; nothing was pending. Else it is pending behind so many items.
-abbrev pub HasTried : {K : Type 0} → (PlainSession → List Item → List Item → Bool → KeptSession K → Type 0) → PlainSession → List Item → List Item → Bool → Item → Option ℕ → KeptSession K → Type 0
-HasTried Keeps opening history pending lost item None after = (pending ≡ []) × Keeps opening (history ++ item ∷ []) [] lost after
+abbrev pub HasTried : {K : Type 0} → (PlainSession → List Item → List Item → Bool → KeptSession K → Type 0)
+    → PlainSession → List Item → List Item → Bool → Item → Option ℕ → KeptSession K → Type 0
+HasTried Keeps opening history pending lost item None after =
+    (pending ≡ []) × Keeps opening (history ++ item ∷ []) [] lost after
 HasTried Keeps opening history pending lost item (Some place) after =
     (lost ≡ false) × (place ≡ length history + length pending) × Keeps opening history (pending ++ item ∷ []) lost after
 
 -- How a call that waits behind so many items goes on: it is the next, and settled; or what was pending is lost; or it is not the next.
-abbrev pub HasSettled : {K : Type 0} → (PlainSession → List Item → List Item → Bool → KeptSession K → Type 0) → PlainSession → List Item → List Item → Bool → ℕ → Waiting → KeptSession K → KeptSession K → Type 0
+abbrev pub HasSettled : {K : Type 0} → (PlainSession → List Item → List Item → Bool → KeptSession K → Type 0)
+    → PlainSession → List Item → List Item → Bool → ℕ → Waiting → KeptSession K → KeptSession K → Type 0
 HasSettled Keeps opening history pending lost place Ended before after =
-    (lost ≡ false) × (length history ≡ place) × ((item : Item) (rest : List Item) → pending ≡ item ∷ rest → Keeps opening (history ++ item ∷ []) rest lost after)
+    (lost ≡ false) × (length history ≡ place)
+    × ((item : Item) (rest : List Item) → pending ≡ item ∷ rest → Keeps opening (history ++ item ∷ []) rest lost after)
 HasSettled Keeps opening history pending lost place Lost before after = Keeps opening history [] true after
 HasSettled Keeps opening history pending lost place GoesOn before after = after ≡ before
 

@@ -67,7 +67,13 @@ UsedNoSpare p = (n : ℕ) → 0 < in_ranges n p.spare → calls_of (n ∷ []) p.
 
 -- what a contract sees of a seat with this knowledge
 abbrev pub pass_state : TableId → Knowledge → PassState
-pass_state session v = record { session = session; opening = v.opening; callers = v.callers; spare = v.spare; seen = v.seen }
+pass_state session v = record {
+  session = session;
+  opening = v.opening;
+  callers = v.callers;
+  spare = v.spare;
+  seen = v.seen;
+}
 
 -- The pass after a call. There is a history that begins with all that it had seen, without another item of its
 -- callers; the pass has then seen this history and the item behind it, and its own calls have grown by just this item.
@@ -78,7 +84,8 @@ pub record Grew (before after : PassState) (history : List Item) (item : Item) :
   pub mine : has (caller before) before.callers ≡ true
 
 -- the reply is the one due at that place of the history, and what is kept was trusted there and is so after the call
-pub record Replied (IsTrusted : PlainSession → Type 0) (before after : PassState) (request : Request) (reply : Reply) : Type 0 where
+pub record Replied (IsTrusted : PlainSession → Type 0) (before after : PassState) (request : Request)
+    (reply : Reply) : Type 0 where
   pub history : List Item
   pub grew : Grew before after history (Did (caller before) request)
   pub replies : reply ≡ reply_from before.opening history request
@@ -93,7 +100,8 @@ pub record Voided (IsTrusted : PlainSession → Type 0) (before after : PassStat
   pub trusted_after : IsTrusted (play_from before.opening after.seen)
 
 -- the same of a call that was not kept: the reply due at that place may change the session, and a keeper is shut
-pub record NotKept (IsTrusted : PlainSession → Type 0) (Shut : Type 0) (before after : PassState) (request : Request) : Type 0 where
+pub record NotKept (IsTrusted : PlainSession → Type 0) (Shut : Type 0) (before after : PassState)
+    (request : Request) : Type 0 where
   pub history : List Item
   pub grew : Grew before after history (Unkept (caller before))
   pub due : MayChange (reply_from before.opening history request)

@@ -101,17 +101,22 @@ KnowsOpening opening v = 0 < length v.callers → v.opening ≡ opening
 
 -- some view that has a caller has seen the whole history
 abbrev pub IsSeenWhole : List Item → List Knowledge → Type 0
-IsSeenWhole history views = (i : ℕ) × (v : Knowledge) × (get_elem? views i ≡ some v) × (v.seen ≡ history) × (0 < length v.callers)
+IsSeenWhole history views = (i : ℕ) × (v : Knowledge) × (get_elem? views i ≡ some v) × (v.seen ≡ history)
+    × (0 < length v.callers)
 
 -- the session lies in the slot, and was asked the history and what is pending; its keeper has kept pace
-pub record IsHome {K : Type 0} (Keeps : PlainSession → List Item → List Item → Bool → KeptSession K → Type 0) (opening : PlainSession) (history pending : List Item) (lost : Bool) (homes : List (mathlib.Core.Option.Option (KeptSession K))) : Type 0 where
+pub record IsHome {K : Type 0} (Keeps : PlainSession → List Item → List Item → Bool → KeptSession K → Type 0)
+    (opening : PlainSession) (history pending : List Item) (lost : Bool)
+    (homes : List (mathlib.Core.Option.Option (KeptSession K))) : Type 0 where
   pub there : KeptSession K
   pub at : homes ≡ some there ∷ []
   pub keeps : Keeps opening history pending lost there
 
 -- What holds of a history and of what is pending behind it, of the table, of the trust and of the keeper. A view with no caller is that of a
 -- pass which was merged.
-pub record IsInOrder {K : Type 0} (Trusted : PlainSession → Type 0) (Keeps : PlainSession → List Item → List Item → Bool → KeptSession K → Type 0) (history pending : List Item) (lost : Bool) (s : State (KeptSession K) Knowledge) : Type 0 where
+pub record IsInOrder {K : Type 0} (Trusted : PlainSession → Type 0)
+    (Keeps : PlainSession → List Item → List Item → Bool → KeptSession K
+    → Type 0) (history pending : List Item) (lost : Bool) (s : State (KeptSession K) Knowledge) : Type 0 where
   -- the session that the lock began with, which each view knows
   pub opening : PlainSession
   pub opened : Every (KnowsOpening opening) s.views
@@ -153,8 +158,10 @@ abbrev pub PlaysWell : (PlainSession → Type 0) → PlainSession → List Item 
 PlaysWell Trusted opening history = Trusted (play_from opening history) × IsSoundThrough opening history
 
 -- there is one history that holds of the table, with what is pending behind it
-abbrev pub Locks : {K : Type 0} → (PlainSession → Type 0) → (PlainSession → List Item → List Item → Bool → KeptSession K → Type 0) → State (KeptSession K) Knowledge → Type 0
-Locks Trusted Keeps s = (history : List Item) × (pending : List Item) × (lost : Bool) × IsInOrder Trusted Keeps history pending lost s
+abbrev pub Locks : {K : Type 0} → (PlainSession → Type 0)
+    → (PlainSession → List Item → List Item → Bool → KeptSession K → Type 0) → State (KeptSession K) Knowledge → Type 0
+Locks Trusted Keeps s = (history : List Item) × (pending : List Item) × (lost : Bool)
+    × IsInOrder Trusted Keeps history pending lost s
 
 abbrev pub merge_part : List ℕ → List Item → Part
 merge_part callers seen = record { callers = callers; seen = seen }

@@ -56,7 +56,9 @@ Waits m ticket = (m.1 ≡ []) × (m.0.ticket ≡ Some ticket) × (m.0.holding �
 
 -- It is the pass's turn: the whole history was seen, and the session taken with its keeper, which were asked what is pending too. The play is
 -- trusted and sound all the way. If a call of the pass waits, what it waits for has come or comes, unless something was lost.
-pub record HasTurn {K : Type 0} (Trusted : PlainSession → Type 0) (Keeps : PlainSession → List Item → List Item → Bool → KeptSession K → Type 0) (m : M K) (ticket : ℕ) (m' : M K) : Type 0 where
+pub record HasTurn {K : Type 0} (Trusted : PlainSession → Type 0)
+    (Keeps : PlainSession → List Item → List Item → Bool → KeptSession K
+    → Type 0) (m : M K) (ticket : ℕ) (m' : M K) : Type 0 where
   pub history : List Item
   pub pending : List Item
   pub lost : Bool
@@ -71,28 +73,37 @@ pub record HasTurn {K : Type 0} (Trusted : PlainSession → Type 0) (Keeps : Pla
   pub hopes : MayHope history pending lost m.0.hopes
 
 -- look: it is the pass's turn, or nothing changed
-abbrev pub Looks : {K : Type 0} → (PlainSession → Type 0) → (PlainSession → List Item → List Item → Bool → KeptSession K → Type 0) → Step (KeptSession K) → M K → ℕ → M K → Type 0
+abbrev pub Looks : {K : Type 0} → (PlainSession → Type 0)
+    → (PlainSession → List Item → List Item → Bool → KeptSession K → Type 0) → Step (KeptSession K) → M K → ℕ → M K
+    → Type 0
 Looks Trusted Keeps st m found m' =
     (m.0.ticket ≡ Some found → HasTurn Trusted Keeps m found m') × (m.0.ticket ≢ Some found → m' ≡ m)
 
 -- the session in hand was asked, and is sound; its keeper kept pace
-pub record Works {K : Type 0} (Keeps : PlainSession → List Item → List Item → Bool → KeptSession K → Type 0) (shut : K → Type 0) (m : M K) (request : Request) (result : Result Reply CallFault) (place : Option ℕ) (m' : M K) : Type 0 where
+pub record Works {K : Type 0} (Keeps : PlainSession → List Item → List Item → Bool → KeptSession K → Type 0)
+    (shut : K → Type 0) (m : M K) (request : Request) (result : Result Reply CallFault) (place : Option ℕ)
+    (m' : M K) : Type 0 where
   pub before : KeptSession K
   pub after : KeptSession K
   pub had : m.1 ≡ (0, before) ∷ []
   pub has : m' ≡ (m.0, (0, after) ∷ [])
-  pub answers : MatchResult result (λ reply. with_reply after.session reply ≡ answer before.session request) (λ _. after.session ≡ before.session)
+  pub answers : MatchResult result (λ reply. with_reply after.session reply ≡ answer before.session request) (λ _.
+      after.session ≡ before.session)
   pub sound : IsSoundSession after.session
   pub cause : HasCause (answer before.session request).reply (shut after.keeper) result
-  pub tried : (opening : PlainSession) (history pending : List Item) (lost : Bool) (caller : ℕ) → Keeps opening history pending lost before → HasTried Keeps opening history pending lost (item_of caller request result) place after
+  pub tried : (opening : PlainSession) (history pending : List Item) (lost : Bool) (caller : ℕ)
+      → Keeps opening history pending lost before
+      → HasTried Keeps opening history pending lost (item_of caller request result) place after
 
 -- the session in hand was settled for a call that waits behind so many items
-pub record GoesOnSo {K : Type 0} (Keeps : PlainSession → List Item → List Item → Bool → KeptSession K → Type 0) (m : M K) (place : ℕ) (how : Waiting) (m' : M K) : Type 0 where
+pub record GoesOnSo {K : Type 0} (Keeps : PlainSession → List Item → List Item → Bool → KeptSession K → Type 0)
+    (m : M K) (place : ℕ) (how : Waiting) (m' : M K) : Type 0 where
   pub before : KeptSession K
   pub after : KeptSession K
   pub had : m.1 ≡ (0, before) ∷ []
   pub has : m' ≡ (m.0, (0, after) ∷ [])
-  pub settled : (opening : PlainSession) (history pending : List Item) (lost : Bool) → Keeps opening history pending lost before → HasSettled Keeps opening history pending lost place how before after
+  pub settled : (opening : PlainSession) (history pending : List Item) (lost : Bool)
+      → Keeps opening history pending lost before → HasSettled Keeps opening history pending lost place how before after
 
 -- an item may come next: it is the first of those that are pending; or none is, and the session goes well with it
 abbrev pub IsNext : (PlainSession → Type 0) → Knowledge → Item → Type 0
@@ -114,21 +125,26 @@ pub record MayCommit (Trusted : PlainSession → Type 0) (v : Knowledge) (item :
   pub next : IsNext Trusted v (item caller)
 
 -- it may come, and the turn may end: the session in hand was asked all that was seen, this item, and what is pending then
-pub record MayEnd {K : Type 0} (Trusted : PlainSession → Type 0) (Keeps : PlainSession → List Item → List Item → Bool → KeptSession K → Type 0) (m : M K) (item : ℕ → Item) : Type 0 where
+pub record MayEnd {K : Type 0} (Trusted : PlainSession → Type 0)
+    (Keeps : PlainSession → List Item → List Item → Bool → KeptSession K → Type 0) (m : M K) (item : ℕ
+    → Item) : Type 0 where
   pub commit : MayCommit Trusted m.0 item
   pub kept : KeptSession K
   pub hand : m.1 ≡ (0, kept) ∷ []
   pub keeps : Keeps m.0.opening (m.0.seen ++ item commit.caller ∷ []) (drop 1 m.0.pending) m.0.lost kept
 
 -- the session in hand may be given back: it was asked all that was seen and is pending
-pub record MayRelease {K : Type 0} (Keeps : PlainSession → List Item → List Item → Bool → KeptSession K → Type 0) (m : M K) : Type 0 where
+pub record MayRelease {K : Type 0} (Keeps : PlainSession → List Item → List Item → Bool → KeptSession K → Type 0)
+    (m : M K) : Type 0 where
   pub kept : KeptSession K
   pub hand : m.1 ≡ (0, kept) ∷ []
   pub holding : m.0.holding ≡ true
   pub keeps : Keeps m.0.opening m.0.seen m.0.pending m.0.lost kept
 
 -- it may be given back with one item more that is pending: nothing was lost, and the pass waits for nothing else
-pub record MayPutOff {K : Type 0} (Trusted : PlainSession → Type 0) (Keeps : PlainSession → List Item → List Item → Bool → KeptSession K → Type 0) (m : M K) (item : ℕ → Item) : Type 0 where
+pub record MayPutOff {K : Type 0} (Trusted : PlainSession → Type 0)
+    (Keeps : PlainSession → List Item → List Item → Bool → KeptSession K → Type 0) (m : M K) (item : ℕ
+    → Item) : Type 0 where
   pub kept : KeptSession K
   pub hand : m.1 ≡ (0, kept) ∷ []
   pub caller : ℕ
@@ -159,12 +175,14 @@ Releases st m found m' = m' ≡ (with_rest m.0, [])
 -- both: the item has come, and the turn is over
 abbrev pub HasEnded : {K : Type 0} → (PlainSession → Type 0) → (ℕ → Item) → M K → M K → Type 0
 HasEnded Trusted item m m' =
-    (caller : ℕ) × (others : List ℕ) × (m.0.callers ≡ caller ∷ others) × (m' ≡ (with_rest (with_seen_item m.0 (item caller)), []))
+    (caller : ℕ) × (others : List ℕ) × (m.0.callers ≡ caller ∷ others)
+    × (m' ≡ (with_rest (with_seen_item m.0 (item caller)), []))
     × PlaysWell Trusted m.0.opening m'.0.seen
 
 -- put off: the session is given back with one item more that is pending, which the pass waits for
 abbrev pub HasPutOff : {K : Type 0} → (ℕ → Item) → M K → M K → Type 0
-HasPutOff item m m' = (caller : ℕ) × (others : List ℕ) × (m.0.callers ≡ caller ∷ others) × (m' ≡ (with_hope m.0 (item caller), []))
+HasPutOff item m m' = (caller : ℕ) × (others : List ℕ) × (m.0.callers ≡ caller ∷ others)
+    × (m' ≡ (with_hope m.0 (item caller), []))
 
 abbrev pub PutsOff : {K : Type 0} → (ℕ → Item) → Step (KeptSession K) → M K → ℕ → M K → Type 0
 PutsOff item st m found m' = HasPutOff item m m'
@@ -190,7 +208,8 @@ Unused st m found m' =
 
 -- split: the first of the n numbers that are taken becomes the new caller's
 abbrev pub split_right : ℕ → Knowledge → Knowledge
-split_right n v = let taken = take_numbers n v.spare in knows v.opening (first_of_ranges taken ∷ []) (drop_numbers 1 taken) v.seen
+split_right n v = let taken =
+    take_numbers n v.spare in knows v.opening (first_of_ranges taken ∷ []) (drop_numbers 1 taken) v.seen
 
 abbrev pub split_left : ℕ → Knowledge → Knowledge
 split_left n v = record v { spare = drop_numbers n v.spare }
@@ -233,15 +252,19 @@ pub record IsIdle {K : Type 0} (m : M K) : Type 0 where
 -- all that was seen begins a history to which the call was added, and the reply is the one due there
 abbrev pub AnswersRequest : {K : Type 0} → (PlainSession → Type 0) → Knowledge → M K → Request → Reply → Type 0
 AnswersRequest Trusted v m request reply =
-    (history : List Item) × (caller : ℕ) × (others : List ℕ) × (v.callers ≡ caller ∷ others) × Saw v.callers v.seen history
-    × (m ≡ (knows v.opening v.callers v.spare (history ++ Did caller request ∷ []), [])) × (reply ≡ reply_from v.opening history request)
+    (history : List Item) × (caller : ℕ) × (others : List ℕ) × (v.callers ≡ caller ∷ others)
+    × Saw v.callers v.seen history
+    × (m ≡ (knows v.opening v.callers v.spare (history ++ Did caller request ∷ []), []))
+    × (reply ≡ reply_from v.opening history request)
     × Trusted (play_from v.opening history)
 
 -- the same of a call that has no answer, of whose reply this is so
 abbrev pub Misses : {K : Type 0} → (ℕ → Item) → (Reply → Type 0) → Knowledge → M K → Request → Type 0
 Misses item due v m request =
-    (history : List Item) × (caller : ℕ) × (others : List ℕ) × (v.callers ≡ caller ∷ others) × Saw v.callers v.seen history
-    × (m ≡ (knows v.opening v.callers v.spare (history ++ item caller ∷ []), [])) × due (reply_from v.opening history request)
+    (history : List Item) × (caller : ℕ) × (others : List ℕ) × (v.callers ≡ caller ∷ others)
+    × Saw v.callers v.seen history
+    × (m ≡ (knows v.opening v.callers v.spare (history ++ item caller ∷ []), []))
+    × due (reply_from v.opening history request)
 
 -- the call found no memory, and the reply may want some; or the keeper is shut, and the reply may change the session
 abbrev pub Fails : {K : Type 0} → Type 0 → Knowledge → M K → Request → CallFault → Type 0
@@ -249,8 +272,10 @@ Fails shut v m request fault.WantOfMemory = Misses (λ caller. Void caller) MayW
 Fails shut v m request fault.Unkept = Misses (λ caller. Unkept caller) (λ reply. MayChange reply × shut) v m request
 
 -- the call was made: it has its reply or none, as is due at its place of the history
-abbrev pub HasMade : {K : Type 0} → (PlainSession → Type 0) → Type 0 → Knowledge → Request → Result Reply CallFault → M K → Type 0
-HasMade Trusted shut v request result m = MatchResult result (λ reply. AnswersRequest Trusted v m request reply) (λ why. Fails shut v m request why)
+abbrev pub HasMade : {K : Type 0} → (PlainSession → Type 0) → Type 0 → Knowledge → Request → Result Reply CallFault
+    → M K → Type 0
+HasMade Trusted shut v request result m =
+    MatchResult result (λ reply. AnswersRequest Trusted v m request reply) (λ why. Fails shut v m request why)
 
 -- ---- a call that takes more than one turn
 
@@ -259,7 +284,8 @@ abbrev pub rested : Knowledge → Knowledge
 rested v = record v { hopes = None }
 
 -- The pass waits for its call, which was asked behind so many items. The reply, or that there is none, is the one due there.
-pub record IsWaiting {K : Type 0} (shut : K → Type 0) (m : M K) (request : Request) (result : Result Reply CallFault) (place : ℕ) : Type 0 where
+pub record IsWaiting {K : Type 0} (shut : K → Type 0) (m : M K) (request : Request) (result : Result Reply CallFault)
+    (place : ℕ) : Type 0 where
   pub idle : IsIdle {K = K} (rested m.0, m.1)
   pub history : List Item
   pub hope : m.0.hopes ≡ Some (record { history = history; item = item_of idle.first request result })
@@ -282,7 +308,9 @@ pub record Rests {K : Type 0} (m : M K) : Type 0 where
 
 -- The pass has its turn, which it has taken since it knew this. It has the session in hand, which was asked all that it has seen and what is
 -- pending. What it waits for comes, unless something was lost.
-pub record InTurn {K : Type 0} (Told : PlainSession → Type 0) (Keeps : PlainSession → List Item → List Item → Bool → KeptSession K → Type 0) (v : Knowledge) (m : M K) : Type 0 where
+pub record InTurn {K : Type 0} (Told : PlainSession → Type 0)
+    (Keeps : PlainSession → List Item → List Item → Bool → KeptSession K
+    → Type 0) (v : Knowledge) (m : M K) : Type 0 where
   pub caller : ℕ
   pub others : List ℕ
   pub mine : v.callers ≡ caller ∷ others
@@ -294,7 +322,10 @@ pub record InTurn {K : Type 0} (Told : PlainSession → Type 0) (Keeps : PlainSe
   pub pending : List Item
   pub lost : Bool
   pub kept : KeptSession K
-  pub is : m ≡ (record v { ticket = Some ticket; holding = true; seen = history; pending = pending; lost = lost }, (0, kept) ∷ [])
+  pub is : m ≡ (
+    record v { ticket = Some ticket; holding = true; seen = history; pending = pending; lost = lost },
+    (0, kept) ∷ [],
+  )
   pub count : length history + length pending ≤ ticket
   pub saw : Saw v.callers v.seen history
   pub keeps : Keeps v.opening history pending lost kept
@@ -304,17 +335,23 @@ pub record InTurn {K : Type 0} (Told : PlainSession → Type 0) (Keeps : PlainSe
 
 -- it waits for an item behind so many
 abbrev pub HopesAt : Knowledge → ℕ → Type 0
-HopesAt v place = (history : List Item) × (item : Item) × (v.hopes ≡ Some (record { history = history; item = item })) × (length history ≡ place)
+HopesAt v place = (history : List Item) × (item : Item) × (v.hopes ≡ Some (record { history = history; item = item }))
+    × (length history ≡ place)
 
 -- in its turn what it waits for is the next, and is safe
-pub record IsNextInTurn {K : Type 0} (Told : PlainSession → Type 0) (Keeps : PlainSession → List Item → List Item → Bool → KeptSession K → Type 0) (v : Knowledge) (m : M K) : Type 0 where
+pub record IsNextInTurn {K : Type 0} (Told : PlainSession → Type 0)
+    (Keeps : PlainSession → List Item → List Item → Bool → KeptSession K
+    → Type 0) (v : Knowledge) (m : M K) : Type 0 where
   pub hope : Hope
   pub hopes_is : v.hopes ≡ Some hope
   pub rest : List Item
-  pub turn : InTurn Told (λ opening history pending lost kept. Keeps opening (history ++ hope.item ∷ []) rest lost kept) v m
+  pub turn : InTurn Told (λ opening history pending lost kept.
+      Keeps opening (history ++ hope.item ∷ []) rest lost kept) v m
   pub next : turn.pending ≡ hope.item ∷ rest
   pub comes : hope.history ≡ turn.history
 
 -- in its turn it was lost
-pub record IsLostInTurn {K : Type 0} (Told : PlainSession → Type 0) (Keeps : PlainSession → List Item → List Item → Bool → KeptSession K → Type 0) (v : Knowledge) (m : M K) : Type 0 where
+pub record IsLostInTurn {K : Type 0} (Told : PlainSession → Type 0)
+    (Keeps : PlainSession → List Item → List Item → Bool → KeptSession K
+    → Type 0) (v : Knowledge) (m : M K) : Type 0 where
   pub turn : InTurn Told (λ opening history pending lost kept. Keeps opening history [] true kept) v m

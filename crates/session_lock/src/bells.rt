@@ -44,6 +44,7 @@ impl Model for Bells {
 }
 
 impl Bells {
+    /// Bells that were not rung yet.
     pub(crate) fn new(alloc: Global) -> Result<Bells, AllocError> {
         let (table, _) = Table::of_words(alloc, &[0; 64], &())?;
         Ok(Bells { table })

@@ -25,15 +25,17 @@ impl Model for Held {
 }
 
 impl Held {
+    /// Holds a session, which is sound.
     pub(crate) fn of(session: Session) -> Held
         ensures plain { result ≡ session.plain }
         ensures sound { IsSoundSession result }
     {
         // a session that can be asked is sound
-        let _ = session.horizon();
+        let _ = session.horizon(); // for the prover
         Held { session }
     }
 
+    /// The session that it holds.
     pub(crate) fn into_session(self) -> Session
         ensures { result.plain ≡ self }
     {
@@ -96,6 +98,7 @@ pub enum Waiting {
 }
 
 impl<K: Keeper> KeptSession<K> {
+    /// A session with its keeper, of which nothing was asked yet.
     pub(crate) fn of(session: Session, keeper: K) -> KeptSession<K>
         ensures first { IsFirstKept result session.plain keeper }
         ensures sound { IsSoundSession result.session }
@@ -112,6 +115,7 @@ impl<K: Keeper> KeptSession<K> {
         }
     }
 
+    /// The session and the keeper.
     pub(crate) fn into_parts(self) -> (Session, K)
         ensures { (result.0.plain ≡ self.session) × (result.1 ≡ self.keeper) }
     {
@@ -130,7 +134,8 @@ impl<K: Keeper> KeptSession<K> {
         ensures same { (self.new.session ≡ self.old.session) × (self.new.keeper ≡ self.old.keeper) }
         ensures tried { (first : ℕ) (opening : PlainSession) (history pending : List Item) (lost : Bool) (item : Item) →
             WasAsked K.holds K.writes K.settled K.shut K.faults first opening history pending lost item self.old →
-            HasTried (KeepsHoped K.holds K.writes K.shut K.faults first) opening history pending lost item result self.new }
+            HasTried (KeepsHoped K.holds K.writes K.shut K.faults first) opening history pending lost item result
+            self.new }
     {
         let place = self.asked;
         self.asked += 1;
@@ -160,7 +165,8 @@ impl<K: Keeper> KeptSession<K> {
         ensures cause { HasCause (answer self.old.session request.now).reply (K.shut self.new.keeper) result.0 }
         ensures tried { (first : ℕ) (opening : PlainSession) (history pending : List Item) (lost : Bool) (caller : ℕ) →
             KeepsHoped K.holds K.writes K.shut K.faults first opening history pending lost self.old →
-            HasTried (KeepsHoped K.holds K.writes K.shut K.faults first) opening history pending lost (item_of caller request.now result.0) result.1 self.new }
+            HasTried (KeepsHoped K.holds K.writes K.shut K.faults first) opening history pending lost
+            (item_of caller request.now result.0) result.1 self.new }
     {
         let result = self.session.call(&mut self.keeper, request);
         let place = self.place();
@@ -174,7 +180,8 @@ impl<K: Keeper> KeptSession<K> {
         requires back { CanGoBack self.old }
         ensures settled { (first : ℕ) (opening : PlainSession) (history pending : List Item) (lost : Bool) →
             KeepsHoped K.holds K.writes K.shut K.faults first opening history pending lost self.old →
-            HasSettled (KeepsHoped K.holds K.writes K.shut K.faults first) opening history pending lost place result self.old self.new }
+            HasSettled (KeepsHoped K.holds K.writes K.shut K.faults first) opening history pending lost place result
+            self.old self.new }
     {
         if self.lost {
             return Waiting::Lost;
@@ -203,7 +210,12 @@ impl<K: Keeper> KeptSession<K> {
     /// What waits is gone.
     fn lose(&mut self)
         requires { CanGoBack self.old }
-        ensures { self.new ≡ record self.old { session = back_to self.old.mark self.old.session; safe = self.old.done; asked = self.old.done; lost = true } }
+        ensures { self.new ≡ record self.old {
+          session = back_to self.old.mark self.old.session;
+          safe = self.old.done;
+          asked = self.old.done;
+          lost = true;
+        } }
     {
         self.session.go_back(self.mark);
         self.safe = self.done;

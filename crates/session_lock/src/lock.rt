@@ -79,7 +79,8 @@ impl<T: Trust, K: Keeper> Model for SharedSession<T, K> {
 
     ghost Value = { SharedState T };
 
-    ghost view = { λ shared. shared_state shared.table.shared.table_id shared.table.shared.key (K.faults shared.table.shared.key.2.me.0.keeper) };
+    ghost view = { λ shared. shared_state shared.table.shared.table_id shared.table.shared.key
+        (K.faults shared.table.shared.key.2.me.0.keeper) };
 
     ghost invariant = { λ shared. (shared.table.shared.table_id.words ≡ 3) × (shared.table.shared.table_id.slots ≡ 1) };
 }
@@ -119,7 +120,7 @@ impl<T: Trust> SharedSession<T> {
         ensures unmade { IfErr result (λ unmade. (unmade.session.plain ≡ session.plain) × (unmade.trust ≡ trust)) }
     {
         // tells that the session is sound, so that it covers itself
-        let _horizon = session.horizon();
+        let _horizon = session.horizon(); // for the prover
         SharedSession::with_keeper(alloc, id, session, NoKeeper, trust)
     }
 
@@ -154,7 +155,8 @@ impl<T: Trust> SharedSession<T> {
     ) -> Result<Reply, WantOfMemory>
         requires session { pass.old.session ≡ self.now.session }
         requires kind { is_offer request.now ≡ true }
-        requires allowed { MayBeAsked T.allows self.now.trust self.now.id (play_from pass.old.opening pass.old.seen) request.now }
+        requires allowed { MayBeAsked T.allows self.now.trust self.now.id
+            (play_from pass.old.opening pass.old.seen) request.now }
         ensures kept { pass.new ≡ record pass.old { seen = pass.new.seen } }
         ensures call { MatchResult result
             (λ reply. Replied (IsTrusted T.allows self.now.trust self.now.id) pass.old pass.new request.now reply)
@@ -265,7 +267,8 @@ impl<T: Trust, K: Keeper> SharedSession<T, K> {
         ensures kept { pass.new ≡ record pass.old { seen = pass.new.seen } }
         ensures call { MatchResult result
             (λ reply. Replied (IsTrusted T.allows self.now.trust self.now.id) pass.old pass.new request.now reply)
-            (λ fault. Missed (IsTrusted T.allows self.now.trust self.now.id) (SomeShut K.shut) pass.old pass.new request.now fault) }
+            (λ fault. Missed (IsTrusted T.allows self.now.trust self.now.id)
+            (SomeShut K.shut) pass.old pass.new request.now fault) }
         ensures sound { IsSoundThrough pass.old.opening pass.new.seen }
     {
         self.ask(rt, pass, request)
@@ -280,11 +283,13 @@ impl<T: Trust, K: Keeper> SharedSession<T, K> {
     ) -> Result<Reply, CallFault>
         requires session { pass.old.session ≡ self.now.session }
         requires kind { is_offer request.now ≡ true }
-        requires allowed { MayBeAsked T.allows self.now.trust self.now.id (play_from pass.old.opening pass.old.seen) request.now }
+        requires allowed { MayBeAsked T.allows self.now.trust self.now.id
+            (play_from pass.old.opening pass.old.seen) request.now }
         ensures kept { pass.new ≡ record pass.old { seen = pass.new.seen } }
         ensures call { MatchResult result
             (λ reply. Replied (IsTrusted T.allows self.now.trust self.now.id) pass.old pass.new request.now reply)
-            (λ fault. Missed (IsTrusted T.allows self.now.trust self.now.id) (SomeShut K.shut) pass.old pass.new request.now fault) }
+            (λ fault. Missed (IsTrusted T.allows self.now.trust self.now.id)
+            (SomeShut K.shut) pass.old pass.new request.now fault) }
         ensures sound { IsSoundThrough pass.old.opening pass.new.seen }
     {
         self.ask(rt, pass, request)
@@ -358,7 +363,7 @@ impl<T: Trust, K: Keeper> SharedSession<T, K> {
         kept.into_parts()
     }
 
-    // Looks at the whole history, and gives its length.
+    /// Looks at the whole history, and gives its length.
     fn count<J: Trusting>(&self, seat: &mut Place<K>) -> u64
         requires table { seat.old.table_id ≡ self.now.session }
         requires trusted { (s : PlainSession) → IsTrusted T.allows self.now.trust self.now.id s → J.trusted s }
@@ -369,7 +374,7 @@ impl<T: Trust, K: Keeper> SharedSession<T, K> {
         self.table.shared.load::<CountAll<J>>(seat, DONE)
     }
 
-    // Makes a call for the pass.
+    /// Makes a call for the pass.
     fn ask<R: Wait>(
         &self,
         rt: &R,
@@ -377,17 +382,19 @@ impl<T: Trust, K: Keeper> SharedSession<T, K> {
         request: &Request,
     ) -> Result<Reply, CallFault>
         requires session { pass.old.session ≡ self.now.session }
-        requires allowed { MayBeAsked T.allows self.now.trust self.now.id (play_from pass.old.opening pass.old.seen) request.now }
+        requires allowed { MayBeAsked T.allows self.now.trust self.now.id
+            (play_from pass.old.opening pass.old.seen) request.now }
         ensures kept { pass.new ≡ record pass.old { seen = pass.new.seen } }
         ensures call { MatchResult result
             (λ reply. Replied (IsTrusted T.allows self.now.trust self.now.id) pass.old pass.new request.now reply)
-            (λ fault. Missed (IsTrusted T.allows self.now.trust self.now.id) (SomeShut K.shut) pass.old pass.new request.now fault) }
+            (λ fault. Missed (IsTrusted T.allows self.now.trust self.now.id)
+            (SomeShut K.shut) pass.old pass.new request.now fault) }
         ensures sound { IsSoundThrough pass.old.opening pass.new.seen }
     {
         self.make::<Brand, R>(rt, &mut pass.seat, request)
     }
 
-    // Makes a call with what is asked, which the proof names by `J`.
+    /// Makes a call with what is asked, which the proof names by `J`.
     fn make<J: Asking + Trusting, R: Wait>(
         &self,
         rt: &R,
@@ -398,7 +405,8 @@ impl<T: Trust, K: Keeper> SharedSession<T, K> {
         requires asked { request.now ≡ J.request }
         requires trusted { (s : PlainSession) → IsTrusted T.allows self.now.trust self.now.id s → J.trusted s }
         requires first { self.now.faults ≡ J.first }
-        requires allowed { MayBeAsked T.allows self.now.trust self.now.id (play_from seat.old.me.0.opening seat.old.me.0.seen) request.now }
+        requires allowed { MayBeAsked T.allows self.now.trust self.now.id
+            (play_from seat.old.me.0.opening seat.old.me.0.seen) request.now }
         requires idle { IsIdle seat.old.me }
         ensures table { seat.new.table_id ≡ self.now.session }
         ensures made { HasMade J.trusted (SomeShut K.shut) seat.old.me.0 request.now result seat.new.me }
@@ -418,20 +426,21 @@ impl<T: Trust, K: Keeper> SharedSession<T, K> {
         }
     }
 
-    // Draws a ticket, and takes its turn.
+    /// Draws a ticket, and takes its turn.
     fn enter<J: Trusting, R: Wait>(&self, rt: &R, seat: &mut Place<K>)
         requires table { seat.old.table_id ≡ self.now.session }
         requires trusted { (s : PlainSession) → IsTrusted T.allows self.now.trust self.now.id s → J.trusted s }
         requires first { self.now.faults ≡ J.first }
         requires rests { Rests seat.old.me }
         ensures table { seat.new.table_id ≡ self.now.session }
-        ensures turn { InTurn J.trusted (KeepsHoped K.holds K.writes K.shut K.faults J.first) seat.old.me.0 seat.new.me }
+        ensures turn { InTurn J.trusted
+            (KeepsHoped K.holds K.writes K.shut K.faults J.first) seat.old.me.0 seat.new.me }
     {
         let ticket = self.draw(rt, seat);
         self.take_turn::<J, R>(rt, seat, ticket);
     }
 
-    // Waits until what was put off comes into the history. Where it was lost, the call is made again.
+    /// Waits until what was put off comes into the history. Where it was lost, the call is made again.
     fn wait<J: Asking + Trusting, R: Wait>(
         &self,
         rt: &R,
@@ -444,7 +453,8 @@ impl<T: Trust, K: Keeper> SharedSession<T, K> {
         requires asked { request.now ≡ J.request }
         requires trusted { (s : PlainSession) → IsTrusted T.allows self.now.trust self.now.id s → J.trusted s }
         requires first { self.now.faults ≡ J.first }
-        requires allowed { MayBeAsked T.allows self.now.trust self.now.id (play_from seat.old.me.0.opening seat.old.me.0.seen) request.now }
+        requires allowed { MayBeAsked T.allows self.now.trust self.now.id
+            (play_from seat.old.me.0.opening seat.old.me.0.seen) request.now }
         requires waits { IsWaiting K.shut seat.old.me request.now hoped place }
         ensures table { seat.new.table_id ≡ self.now.session }
         ensures made { HasMade J.trusted (SomeShut K.shut) (rested seat.old.me.0) request.now result seat.new.me }
@@ -460,8 +470,8 @@ impl<T: Trust, K: Keeper> SharedSession<T, K> {
         made
     }
 
-    // Takes turns until the call that waits behind so many items is the next and is safe, or was lost, and tells whether it
-    // is the next.
+    /// Takes turns until the call that waits behind so many items is the next and is safe, or was lost, and tells whether it
+    /// is the next.
     fn reach<J: Trusting, R: Wait>(&self, rt: &R, seat: &mut Place<K>, place: u64) -> bool
         requires table { seat.old.table_id ≡ self.now.session }
         requires trusted { (s : PlainSession) → IsTrusted T.allows self.now.trust self.now.id s → J.trusted s }
@@ -469,8 +479,10 @@ impl<T: Trust, K: Keeper> SharedSession<T, K> {
         requires rests { Rests seat.old.me }
         requires hopes { HopesAt seat.old.me.0 place }
         ensures table { seat.new.table_id ≡ self.now.session }
-        ensures next { result ≡ true → IsNextInTurn J.trusted (KeepsHoped K.holds K.writes K.shut K.faults J.first) seat.old.me.0 seat.new.me }
-        ensures lost { result ≡ false → IsLostInTurn J.trusted (KeepsHoped K.holds K.writes K.shut K.faults J.first) seat.old.me.0 seat.new.me }
+        ensures next { result ≡ true
+            → IsNextInTurn J.trusted (KeepsHoped K.holds K.writes K.shut K.faults J.first) seat.old.me.0 seat.new.me }
+        ensures lost { result ≡ false
+            → IsLostInTurn J.trusted (KeepsHoped K.holds K.writes K.shut K.faults J.first) seat.old.me.0 seat.new.me }
     {
         for _ in rt.forever() {
             self.await_item(rt, place);
@@ -484,7 +496,7 @@ impl<T: Trust, K: Keeper> SharedSession<T, K> {
         unreachable!()
     }
 
-    // Sleeps until the history has so many items. This is for speed alone.
+    /// Sleeps until the history has so many items. This is for speed alone.
     fn await_item<R: Wait>(&self, rt: &R, place: u64) {
         for _ in rt.forever() {
             let rung = self.items.rung(place);
@@ -495,7 +507,7 @@ impl<T: Trust, K: Keeper> SharedSession<T, K> {
         }
     }
 
-    // Makes a call again that was lost.
+    /// Makes a call again that was lost.
     fn again<J: Asking + Trusting>(
         &self,
         seat: &mut Place<K>,
@@ -505,25 +517,29 @@ impl<T: Trust, K: Keeper> SharedSession<T, K> {
         requires asked { request.now ≡ J.request }
         requires trusted { (s : PlainSession) → IsTrusted T.allows self.now.trust self.now.id s → J.trusted s }
         requires first { self.now.faults ≡ J.first }
-        requires lost { (v : Knowledge) × IsLostInTurn J.trusted (KeepsHoped K.holds K.writes K.shut K.faults J.first) v seat.old.me
+        requires lost { (v : Knowledge)
+            × IsLostInTurn J.trusted (KeepsHoped K.holds K.writes K.shut K.faults J.first) v seat.old.me
             × MayBeAsked T.allows self.now.trust self.now.id (play_from v.opening v.seen) request.now }
         ensures table { seat.new.table_id ≡ self.now.session }
-        ensures made { (v : Knowledge) → IsLostInTurn J.trusted (KeepsHoped K.holds K.writes K.shut K.faults J.first) v seat.old.me →
+        ensures made { (v : Knowledge)
+            → IsLostInTurn J.trusted (KeepsHoped K.holds K.writes K.shut K.faults J.first) v seat.old.me →
             HasMade J.trusted (SomeShut K.shut) (rested v) request.now result seat.new.me }
         ensures plays { PlaysWell J.trusted seat.old.me.0.opening seat.new.me.0.seen }
     {
-        self.lose::<J>(seat);
+        self.lose::<J>(seat); // for the prover
         let (result, _) = self.work(seat, request);
         self.end::<J>(seat, &result);
         result
     }
 
-    // The item of a call comes into the history, and the turn ends.
+    /// The item of a call comes into the history, and the turn ends.
     fn end<J: Asking + Trusting>(&self, seat: &mut Place<K>, made: &Result<Reply, CallFault>)
         requires table { seat.old.table_id ≡ self.now.session }
         requires trusted { (s : PlainSession) → IsTrusted T.allows self.now.trust self.now.id s → J.trusted s }
         requires first { self.now.faults ≡ J.first }
-        requires may { MayEnd (IsTrusted T.allows self.now.trust self.now.id) (KeepsHoped K.holds K.writes K.shut K.faults J.first) seat.old.me (λ caller. item_of caller J.request made.now) }
+        requires may { MayEnd (IsTrusted T.allows self.now.trust self.now.id)
+            (KeepsHoped K.holds K.writes K.shut K.faults J.first) seat.old.me (λ caller.
+            item_of caller J.request made.now) }
         ensures table { seat.new.table_id ≡ self.now.session }
         ensures ended { HasEnded J.trusted (λ caller. item_of caller J.request made.now) seat.old.me seat.new.me }
     {
@@ -531,13 +547,15 @@ impl<T: Trust, K: Keeper> SharedSession<T, K> {
         self.release::<J>(seat);
     }
 
-    // The item of a call comes into the history.
+    /// The item of a call comes into the history.
     fn commit<J: Asking + Trusting>(&self, seat: &mut Place<K>, made: &Result<Reply, CallFault>)
         requires table { seat.old.table_id ≡ self.now.session }
         requires trusted { (s : PlainSession) → IsTrusted T.allows self.now.trust self.now.id s → J.trusted s }
-        requires may { MayCommit (IsTrusted T.allows self.now.trust self.now.id) seat.old.me.0 (λ caller. item_of caller J.request made.now) }
+        requires may { MayCommit (IsTrusted T.allows self.now.trust self.now.id) seat.old.me.0 (λ caller.
+            item_of caller J.request made.now) }
         ensures table { seat.new.table_id ≡ self.now.session }
-        ensures committed { HasCommitted J.trusted (λ caller. item_of caller J.request made.now) seat.old.me seat.new.me }
+        ensures committed { HasCommitted J.trusted (λ caller.
+            item_of caller J.request made.now) seat.old.me seat.new.me }
     {
         let shared = &self.table.shared;
         match made {
@@ -553,7 +571,7 @@ impl<T: Trust, K: Keeper> SharedSession<T, K> {
         }
     }
 
-    // Ends the turn.
+    /// Ends the turn.
     fn release<J: Trusting>(&self, seat: &mut Place<K>)
         requires table { seat.old.table_id ≡ self.now.session }
         requires first { self.now.faults ≡ J.first }
@@ -565,11 +583,13 @@ impl<T: Trust, K: Keeper> SharedSession<T, K> {
         self.turns.ring(served.wrapping_add(1));
     }
 
-    // Ends the turn, with the item of a call behind those that wait.
+    /// Ends the turn, with the item of a call behind those that wait.
     fn put_off<J: Asking + Trusting>(&self, seat: &mut Place<K>, made: &Result<Reply, CallFault>)
         requires table { seat.old.table_id ≡ self.now.session }
         requires first { self.now.faults ≡ J.first }
-        requires may { MayPutOff (IsTrusted T.allows self.now.trust self.now.id) (KeepsHoped K.holds K.writes K.shut K.faults J.first) seat.old.me (λ caller. item_of caller J.request made.now) }
+        requires may { MayPutOff (IsTrusted T.allows self.now.trust self.now.id)
+            (KeepsHoped K.holds K.writes K.shut K.faults J.first) seat.old.me (λ caller.
+            item_of caller J.request made.now) }
         ensures table { seat.new.table_id ≡ self.now.session }
         ensures put { HasPutOff (λ caller. item_of caller J.request made.now) seat.old.me seat.new.me }
     {
@@ -577,7 +597,7 @@ impl<T: Trust, K: Keeper> SharedSession<T, K> {
         self.turns.ring(served.wrapping_add(1));
     }
 
-    // Gives the session back, with the item of a call behind those that wait, and tells which ticket was served.
+    /// Gives the session back, with the item of a call behind those that wait, and tells which ticket was served.
     fn put_behind<J: Asking + Trusting>(
         &self,
         seat: &mut Place<K>,
@@ -585,7 +605,9 @@ impl<T: Trust, K: Keeper> SharedSession<T, K> {
     ) -> u64
         requires table { seat.old.table_id ≡ self.now.session }
         requires first { self.now.faults ≡ J.first }
-        requires may { MayPutOff (IsTrusted T.allows self.now.trust self.now.id) (KeepsHoped K.holds K.writes K.shut K.faults J.first) seat.old.me (λ caller. item_of caller J.request made.now) }
+        requires may { MayPutOff (IsTrusted T.allows self.now.trust self.now.id)
+            (KeepsHoped K.holds K.writes K.shut K.faults J.first) seat.old.me (λ caller.
+            item_of caller J.request made.now) }
         ensures table { seat.new.table_id ≡ self.now.session }
         ensures put { HasPutOff (λ caller. item_of caller J.request made.now) seat.old.me seat.new.me }
     {
@@ -597,7 +619,7 @@ impl<T: Trust, K: Keeper> SharedSession<T, K> {
         }
     }
 
-    // Notes that what waited is gone. The word is read for the proof alone.
+    /// Notes that what waited is gone. The word is read for the proof alone.
     fn lose<J: Trusting>(&self, seat: &mut Place<K>)
         requires table { seat.old.table_id ≡ self.now.session }
         requires holding { seat.old.me.0.holding ≡ true }
@@ -607,7 +629,7 @@ impl<T: Trust, K: Keeper> SharedSession<T, K> {
         self.table.shared.load::<Lose>(seat, DONE);
     }
 
-    // Draws a ticket. Once 2^64 - 1 were drawn it waits for good.
+    /// Draws a ticket. Once 2^64 - 1 were drawn it waits for good.
     fn draw<R: Wait>(&self, rt: &R, seat: &mut Place<K>) -> u64
         requires table { seat.old.table_id ≡ self.now.session }
         requires idle { (seat.old.me.0.ticket ≡ None) × (seat.old.me.0.holding ≡ false) }
@@ -630,14 +652,15 @@ impl<T: Trust, K: Keeper> SharedSession<T, K> {
         unreachable!()
     }
 
-    // Waits until the ticket is served, and takes the session. Between two looks it sleeps until the turn before has ended.
+    /// Waits until the ticket is served, and takes the session. Between two looks it sleeps until the turn before has ended.
     fn take_turn<J: Trusting, R: Wait>(&self, rt: &R, seat: &mut Place<K>, ticket: u64)
         requires table { seat.old.table_id ≡ self.now.session }
         requires trusted { (s : PlainSession) → IsTrusted T.allows self.now.trust self.now.id s → J.trusted s }
         requires first { self.now.faults ≡ J.first }
         requires drawn { Waits seat.old.me ticket }
         ensures table { seat.new.table_id ≡ self.now.session }
-        ensures turn { HasTurn J.trusted (KeepsHoped K.holds K.writes K.shut K.faults J.first) seat.old.me ticket seat.new.me }
+        ensures turn { HasTurn J.trusted
+            (KeepsHoped K.holds K.writes K.shut K.faults J.first) seat.old.me ticket seat.new.me }
     {
         for _ in rt.forever() {
             let rung = self.turns.rung(ticket);
@@ -650,7 +673,7 @@ impl<T: Trust, K: Keeper> SharedSession<T, K> {
         unreachable!()
     }
 
-    // Calls the session in hand.
+    /// Calls the session in hand.
     fn work(
         &self,
         seat: &mut Place<K>,
@@ -659,24 +682,27 @@ impl<T: Trust, K: Keeper> SharedSession<T, K> {
         requires table { seat.old.table_id ≡ self.now.session }
         requires hand { (kept : KeptSession K) × (seat.old.me.1 ≡ (0, kept) ∷ []) × HasCounts kept }
         ensures table { seat.new.table_id ≡ self.now.session }
-        ensures reply { (first : ℕ) → Works (KeepsHoped K.holds K.writes K.shut K.faults first) K.shut seat.old.me request.now result.0 result.1 seat.new.me }
+        ensures reply { (first : ℕ)
+            → Works (KeepsHoped K.holds K.writes K.shut K.faults first) K.shut seat.old.me request.now result.0 result.1
+            seat.new.me }
     {
         let kept = seat.slot_mut(&self.table.shared, 0);
         kept.call(request)
     }
 
-    // Settles the session in hand for a call that waits behind so many items.
+    /// Settles the session in hand for a call that waits behind so many items.
     fn settle(&self, seat: &mut Place<K>, place: u64) -> Waiting
         requires table { seat.old.table_id ≡ self.now.session }
         requires hand { (kept : KeptSession K) × (seat.old.me.1 ≡ (0, kept) ∷ []) × HasCounts kept × CanGoBack kept }
         ensures table { seat.new.table_id ≡ self.now.session }
-        ensures how { (first : ℕ) → GoesOnSo (KeepsHoped K.holds K.writes K.shut K.faults first) seat.old.me place result seat.new.me }
+        ensures how { (first : ℕ) → GoesOnSo
+            (KeepsHoped K.holds K.writes K.shut K.faults first) seat.old.me place result seat.new.me }
     {
         let kept = seat.slot_mut(&self.table.shared, 0);
         kept.settle(place)
     }
 
-    // The seat of a new pass, with the first number that is taken as its caller's.
+    /// The seat of a new pass, with the first number that is taken as its caller's.
     fn cut<J: Sharing>(&self, seat: &mut Place<K>, spare: u32) -> Place<K>
         requires table { seat.old.table_id ≡ self.now.session }
         requires asked { spare ≡ J.spare }

@@ -31,7 +31,8 @@ impl<T: Trust, K: Keeper> TableRule<KeptSession<K>, Knowledge, (SessionId, T, Ma
     ghost use Rattle.session_lock.specs.Keeping.{KeepsHoped};
     ghost use Rattle.session_lock.specs.Rules.{Locks, first_knowledge};
 
-    ghost holds = { λ key. Locks (IsTrusted T.allows key.1 key.0) (KeepsHoped K.holds K.writes K.shut K.faults (K.faults key.2.me.0.keeper)) };
+    ghost holds = { λ key. Locks (IsTrusted T.allows key.1 key.0)
+        (KeepsHoped K.holds K.writes K.shut K.faults (K.faults key.2.me.0.keeper)) };
 
     ghost first = { λ key. first_knowledge key.2.me.0.session };
 }
@@ -66,6 +67,7 @@ impl Trusting for Brand {
     ghost first = { 0 };
 }
 
+/// Draws the first ticket that nobody has, unless another call drew one meanwhile.
 pub(crate) struct Draw;
 
 impl<K> Play<KeptSession<K>, Knowledge> for Draw {
@@ -74,6 +76,7 @@ impl<K> Play<KeptSession<K>, Knowledge> for Draw {
     ghost then = { Draws };
 }
 
+/// Looks whether it is the turn of the pass, and takes the session if it is.
 pub(crate) struct Look<J> {
     trusting: PhantomData<J>,
 }
@@ -171,6 +174,7 @@ impl<K> Play<KeptSession<K>, Knowledge> for Lose {
     ghost then = { Loses };
 }
 
+/// Reads the whole history, and tells how many items it has.
 pub(crate) struct CountAll<J> {
     trusting: PhantomData<J>,
 }
@@ -201,6 +205,7 @@ impl<K> Play<KeptSession<K>, Knowledge> for LookUnused {
     ghost then = { Unused };
 }
 
+/// Cuts what a pass knows in two: some of its spare numbers go to a new pass.
 pub(crate) struct Cut<J> {
     sharing: PhantomData<J>,
 }
@@ -214,6 +219,7 @@ impl<J: Sharing> Split<Knowledge> for Cut<J> {
     ghost right = { λ v. split_right (J.spare + 1) v };
 }
 
+/// Joins what two passes know.
 pub(crate) struct Glue;
 
 impl Join<Knowledge> for Glue {

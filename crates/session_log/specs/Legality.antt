@@ -11,7 +11,12 @@ use Rattle.session_log.specs.declared.legality.ViewState.{ViewState}
 -- what the test needs of a log
 abbrev pub log_counts : List Entry → LogCounts
 log_counts log =
-    record { entries = length log; payload_bytes = payload_bytes log; views_here = here_count log; time = last_time log }
+    record {
+      entries = length log;
+      payload_bytes = payload_bytes log;
+      views_here = here_count log;
+      time = last_time log;
+    }
 
 -- and of a view in it
 abbrev pub view_state : List Entry → ℕ → ViewState
@@ -29,12 +34,15 @@ log_allows log view Join =
     (view.here || nat_lt log.views_here most_here) && nat_lt log.entries most_open_entries
 log_allows log view Exit = view.here && nat_lt log.entries most_entries
 log_allows log view (Event number payload) =
-    view.here && (number == view.number + 1 && (nat_le (length payload) most_payload && (nat_le (log.payload_bytes + length payload) most_bytes && nat_lt log.entries most_open_entries)))
+    view.here && (number == view.number + 1
+    && (nat_le (length payload) most_payload
+    && (nat_le (log.payload_bytes + length payload) most_bytes && nat_lt log.entries most_open_entries)))
 
 -- the time is later than those before it and in bounds, the view is named, and the rest is allowed
 abbrev pub may_go_on : LogCounts → ViewState → Entry → Bool
 may_go_on log view entry =
-    nat_lt log.time entry.time && (nat_lt entry.time time_limit && (not (entry.view == 0) && log_allows log view entry.what))
+    nat_lt log.time entry.time && (nat_lt entry.time time_limit
+    && (not (entry.view == 0) && log_allows log view entry.what))
 
 -- A log may go on with an entry that has the next seq and a view of 32 bits.
 abbrev pub may_follow : List Entry → Entry → Bool

@@ -54,7 +54,8 @@ kept_spelling (Some kept) = 1 ∷ (to_be_bytes w64 kept.time ++ blob kept.bytes)
 
 -- a mark, the horizon, what is kept, how many entries there are, and the entries
 abbrev pub full_spelling : PlainStored → List ℕ
-full_spelling s = codes "TEALOG02" ++ (to_be_bytes w64 s.horizon ++ (kept_spelling s.kept ++ list_of log_entry_spelling s.log))
+full_spelling s = codes "TEALOG02"
+    ++ (to_be_bytes w64 s.horizon ++ (kept_spelling s.kept ++ list_of log_entry_spelling s.log))
 
 -- where the log tells all it is the log's
 unfoldable pub stored_spelling : PlainStored → List ℕ

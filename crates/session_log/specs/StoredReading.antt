@@ -15,7 +15,8 @@ use Rattle.session_log.specs.declared.stored.Kept.{Kept}
 abbrev pub kept_of_mark : ℕ → Decoder (Option Kept)
 kept_of_mark mark bytes =
     if mark == 0 then nothing_at None bytes
-    else if mark == 1 then made_at (λ p. Some (record { time = p.0; bytes = p.1 })) (paired_at (number_at w64) blob_at) bytes
+    else if mark == 1 then made_at (λ p. Some (record { time = p.0; bytes = p.1 }))
+    (paired_at (number_at w64) blob_at) bytes
     else never_at bytes
 
 unfoldable pub kept_at : Decoder (Option Kept)
@@ -30,7 +31,8 @@ may_be_kept horizon (Some kept) = nat_le kept.time horizon && nat_le (length kep
 -- of a legal log: the three are a stored session
 abbrev pub may_be_stored : PlainStored → Bool
 may_be_stored s =
-    nat_le (last_time s.log) s.horizon && (nat_lt (s.horizon + here_count s.log) time_limit && may_be_kept s.horizon s.kept)
+    nat_le (last_time s.log) s.horizon
+    && (nat_lt (s.horizon + here_count s.log) time_limit && may_be_kept s.horizon s.kept)
 
 -- a log that tells all
 abbrev pub alone : List Entry → PlainStored

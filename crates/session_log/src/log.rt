@@ -187,7 +187,7 @@ impl Log {
     }
 
     /// How many entries have a time of at most `time`, in microseconds.
-    pub fn after_time(&self, time: u64) -> u32
+    pub fn count_until(&self, time: u64) -> u32
         ensures { result ≡ count_until self.now.entries time }
     {
         count_until(&self.heads, time)

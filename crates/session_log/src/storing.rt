@@ -50,7 +50,8 @@ fn write_alone(out: &mut Filling, log: &Log)
 /// Writes a log that does not tell all, the horizon and what is kept.
 fn write_full(out: &mut Filling, log: &Log, horizon: u64, kept: Option<LentKept<'_>>)
     requires short { IfSome kept (λ k. length k.bytes.now ≤ most_snapshot) }
-    requires room { length (full_spelling (plain_of log.now.entries horizon (option_map lent_kept kept))) ≤ out.old.spare }
+    requires room { length (full_spelling (plain_of log.now.entries horizon (option_map lent_kept kept)))
+        ≤ out.old.spare }
     ensures { Fills out.old out.new
         (full_spelling (plain_of log.now.entries horizon (option_map lent_kept kept.entry))) }
 {

@@ -227,7 +227,7 @@ struct Left {
 fn serve_two<R: Threads + Wait + Sync>(rt: &R, alloc: Global, most: u32) -> Result<Left, Fail> {
     let session = Session::new(alloc);
     // tells that the session is sound, so that it covers itself
-    let _horizon = session.horizon();
+    let _horizon = session.horizon(); // for the prover
     let keeper = CountingKeeper::new(most);
     let (shared, mut first) = SharedSession::with_keeper(alloc, ID, session, keeper, TrustAll)
         .ok()
@@ -345,7 +345,7 @@ fn nobody_in_a_crowd_is_left_asleep(rt: HostRuntime) -> Result<(), Fail> {
     let alloc = rt.alloc();
     let session = Session::new(alloc);
     // tells that the session is sound, so that it covers itself
-    let _horizon = session.horizon();
+    let _horizon = session.horizon(); // for the prover
     let keeper = CountingKeeper::new(u32::MAX);
     let (shared, mut lead) = SharedSession::with_keeper(alloc, ID, session, keeper, TrustAll)
         .ok()

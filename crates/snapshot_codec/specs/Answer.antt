@@ -32,7 +32,8 @@ abbrev pub IsSubscription : Subscription → Type 0
 IsSubscription s = IsScalarText s.scope × IsScalarText s.event × (s.object < 2 ^ 32) × IsScalarText s.method
 
 abbrev pub IsMessage : PlainMessage → Type 0
-IsMessage m = (m.time < 2 ^ 64) × (m.number < 2 ^ 64) × (m.object < 2 ^ 32) × IsScalarText m.method × AllByRecursion IsValue m.args
+IsMessage m = (m.time < 2 ^ 64) × (m.number < 2 ^ 64) × (m.object < 2 ^ 32) × IsScalarText m.method
+    × AllByRecursion IsValue m.args
 
 pub record IsWorld (w : WorldRecord) : Type 0 where
   pub id : length w.id ≡ 32

@@ -22,10 +22,12 @@ fields_at (Some count) = values_at count
 
 -- the number of a class, and behind it as many fields as the class has
 abbrev pub classed_at : List ℕ → Decoder (ℕ × List PlainValue)
-classed_at counts = headed_at (number_at w16) (λ class. made_at (λ fields. (class, fields)) (fields_at (slice_get counts class)))
+classed_at counts = headed_at (number_at w16) (λ class.
+    made_at (λ fields. (class, fields)) (fields_at (slice_get counts class)))
 
 unfoldable pub object_record_at : List ℕ → Decoder ObjectRecord
-object_record_at counts = made_at (λ p. record { id = p.0; class = p.1.0; fields = p.1.1 }) (paired_at (number_at w32) (classed_at counts))
+object_record_at counts = made_at (λ p. record { id = p.0; class = p.1.0; fields = p.1.1 })
+    (paired_at (number_at w32) (classed_at counts))
 
 unfoldable pub known_at : Decoder Known
 known_at = made_at (λ p. record { name = p.0; object = p.1 }) (paired_at text_at (number_at w32))
@@ -38,11 +40,13 @@ subscription_at =
 unfoldable pub message_at : Decoder PlainMessage
 message_at =
     made_at (λ p. record { time = p.0; number = p.1.0; object = p.1.1.0; method = p.1.1.1.0; args = p.1.1.1.1 })
-    (paired_at (number_at w64) (paired_at (number_at w64) (paired_at (number_at w32) (paired_at text_at (headed_at byte_at values_at)))))
+    (paired_at (number_at w64) (paired_at (number_at w64)
+    (paired_at (number_at w32) (paired_at text_at (headed_at byte_at values_at)))))
 
 -- the time, the next object and message, the state of the random numbers, and the turns
 unfoldable pub singles_at : Decoder (ℕ × (ℕ × (ℕ × (ℕ × ℕ))))
-singles_at = paired_at (number_at w64) (paired_at (number_at w32) (paired_at (number_at w64) (paired_at (number_at w64) (number_at w32))))
+singles_at = paired_at (number_at w64)
+    (paired_at (number_at w32) (paired_at (number_at w64) (paired_at (number_at w64) (number_at w32))))
 
 -- the counts of the kinds of fault
 abbrev pub faults_at : Decoder (List ℕ)
@@ -76,7 +80,10 @@ unfoldable pub saved_in : List ℕ → Option PlainValue
 saved_in bytes = if length bytes == 0 then Some nil else whole something_at bytes
 
 abbrev pub world_of_front : Front → PlainValue → WorldRecord
-world_of_front p saved = world_of_parts (p.0, (p.1.0, (p.1.1.0, (p.1.1.1.0, (p.1.1.1.1.0, (p.1.1.1.1.1.0, (p.1.1.1.1.1.1.0, (p.1.1.1.1.1.1.1, saved))))))))
+world_of_front p saved = world_of_parts (
+  p.0,
+  (p.1.0, (p.1.1.0, (p.1.1.1.0, (p.1.1.1.1.0, (p.1.1.1.1.1.0, (p.1.1.1.1.1.1.0, (p.1.1.1.1.1.1.1, saved))))))),
+)
 
 -- the world that all of the bytes spell
 unfoldable pub world_in : List ℕ → List ℕ → Option WorldRecord

@@ -26,5 +26,6 @@ pub fn again(alloc: Global, program: &Checked, world: &PlainWorld) -> Result<Pla
 
 /// The bytes of a valid world are the snapshot of that world, and of no other one.
 pub fn snapshot_is_of_its_world()
-    ensures { (counts : List ℕ) (w : WorldRecord) → IsWorld w → Valid counts w → snapshot_world counts w.id (world_spelling w) ≡ Some w }
+    ensures { (counts : List ℕ) (w : WorldRecord) → IsWorld w → Valid counts w
+        → snapshot_world counts w.id (world_spelling w) ≡ Some w }
 {}

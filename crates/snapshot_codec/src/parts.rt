@@ -104,7 +104,8 @@ struct Singles {
 
 #[tactic(auto, unfolding(crate::specs::Reading::singles_at))]
 fn singles_at(bytes: &[u8]) -> Option<(Singles, &[u8])>
-    ensures { option_map (λ x. ((x.0.time, (x.0.next_object, (x.0.next_number, (x.0.random, x.0.turns)))), x.1.now)) result ≡ singles_at bytes.now }
+    ensures { option_map (λ x. ((x.0.time, (x.0.next_object, (x.0.next_number, (x.0.random, x.0.turns)))), x.1.now))
+        result ≡ singles_at bytes.now }
 {
     let (time, rest) = u64_at(bytes)?;
     let (next_object, rest) = u32_at(rest)?;
@@ -150,7 +151,10 @@ fn rows_at<'a>(
     counts: &[u32],
     bytes: &'a [u8],
 ) -> Result<(Rows, &'a [u8]), ValueFault>
-    ensures { Decodes BadValue (λ x. ((x.0.views, (map object_record x.0.objects, (x.0.known, (x.0.subscriptions, map plain_message x.0.pending)))), x.1.now)) result
+    ensures { Decodes BadValue (λ x. (
+      (x.0.views, (map object_record x.0.objects, (x.0.known, (x.0.subscriptions, map plain_message x.0.pending)))),
+      x.1.now,
+    )) result
         (rows_at counts.now bytes.now) }
 {
     let (views, rest) = views_at(alloc, bytes)?;
@@ -193,7 +197,8 @@ fn objects_at<'a>(
     counts: &[u32],
     bytes: &'a [u8],
 ) -> Result<(PlainObjects, &'a [u8]), ValueFault>
-    ensures { Decodes BadValue (λ x. (map object_record x.0, x.1.now)) result (list_at (λ _. object_record_at counts.now) bytes.now) }
+    ensures { Decodes BadValue (λ x. (map object_record x.0, x.1.now)) result
+        (list_at (λ _. object_record_at counts.now) bytes.now) }
 {
     let (count, rest) = u32_at(bytes).ok_or(ValueFault::BadValue)?;
     objects_of(alloc, counts, count, rest)
@@ -205,7 +210,8 @@ fn objects_of<'a>(
     count: u32,
     bytes: &'a [u8],
 ) -> Result<(PlainObjects, &'a [u8]), ValueFault>
-    ensures { Decodes BadValue (λ x. (map object_record x.0, x.1.now)) result (items_at (λ _. object_record_at counts.now) [] count bytes.now) }
+    ensures { Decodes BadValue (λ x. (map object_record x.0, x.1.now)) result
+        (items_at (λ _. object_record_at counts.now) [] count bytes.now) }
 {
     let mut objects = List::new(alloc);
     let mut rest = bytes;
@@ -238,7 +244,8 @@ fn fields_at<'a>(
     class: u16,
     bytes: &'a [u8],
 ) -> Result<(Values, &'a [u8]), ValueFault>
-    ensures { Decodes BadValue (λ x. (plain_values x.0, x.1.now)) result (fields_at (slice_get counts.now class) bytes.now) }
+    ensures { Decodes BadValue (λ x. (plain_values x.0, x.1.now)) result
+        (fields_at (slice_get counts.now class) bytes.now) }
 {
     match counts.get(class as usize) {
         Some(count) => values_at(alloc, *count, bytes),
@@ -341,7 +348,8 @@ fn messages_at(alloc: Global, bytes: &[u8]) -> Result<(Messages, &[u8]), ValueFa
 }
 
 fn messages_of(alloc: Global, count: u32, bytes: &[u8]) -> Result<(Messages, &[u8]), ValueFault>
-    ensures { Decodes BadValue (λ x. (map plain_message x.0, x.1.now)) result (items_at (λ _. message_at) [] count bytes.now) }
+    ensures { Decodes BadValue (λ x. (map plain_message x.0, x.1.now)) result
+        (items_at (λ _. message_at) [] count bytes.now) }
 {
     let mut messages = List::new(alloc);
     let mut rest = bytes;

@@ -28,7 +28,8 @@ pub fn unsnap(
 ) -> Result<PlainWorld, SnapFault>
     ensures answer { Unsnaps result (field_counts (checked_tree program.now)) id.now.0 bytes.now }
     // The same by the world that the bytes spell.
-    ensures read { Decodes SnapFault.Bad world_record result (snapshot_world (field_counts (checked_tree program.now)) id.now.0 bytes.now) }
+    ensures read { Decodes SnapFault.Bad world_record result
+        (snapshot_world (field_counts (checked_tree program.now)) id.now.0 bytes.now) }
     // What is spelled so is read, unless memory runs out.
     ensures only { (w : WorldRecord) → IsSnapshot (field_counts (checked_tree program.now)) id.now.0 bytes.now w →
         ReadsWorld result w }

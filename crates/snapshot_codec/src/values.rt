@@ -65,7 +65,9 @@ pub fn hash_value(hasher: &mut Sha256, value: &Value)
 #[tactic(auto, using(crate::proofs::Hashed::by_weight))]
 fn hash_list(hasher: &mut Sha256, items: &[Value])
     requires { weight_of_all (plains items.now) < 2 ^ 28 }
-    ensures { (m : List ℕ) → Holds256 hasher.old m → Holds256 hasher.new (m ++ to_be_bytes w32 (item_count (plains items.now)) ++ items_spelling (plains items.now)) }
+    ensures { (m : List ℕ) → Holds256 hasher.old m
+        → Holds256 hasher.new (m ++ to_be_bytes w32 (item_count (plains items.now))
+        ++ items_spelling (plains items.now)) }
 {
     let count = items.len() as u32;
     hasher.update(count.to_be_bytes());

@@ -56,6 +56,7 @@ pub fn snapshot(alloc: Global, world: &PlainWorld) -> Result<Blob, WantOfMemory>
 
 // Each writer below adds one spelling behind what was written before.
 
+/// Writes a world.
 #[tactic(auto, using(crate::proofs::Rows::by_rows, crate::proofs::Sizes::by_size))]
 pub(crate) fn put_world(out: &mut Writer, world: &PlainWorld) -> Result<(), WantOfMemory>
     requires { IsSmall (world_record world.now) }
@@ -219,7 +220,8 @@ fn put_message(out: &mut Writer, message: &Message) -> Result<(), WantOfMemory>
 fn put_arguments(out: &mut Writer, arguments: &Values) -> Result<(), WantOfMemory>
     requires few { length (plain_values arguments.now) ≤ most_arguments }
     requires light { values_weight (plain_values arguments.now) ≤ most_world_weight }
-    ensures spelled { OnOk result (out.new ≡ out.old ++ length (plain_values arguments.now) ∷ flat_map value_spelling (plain_values arguments.now)) }
+    ensures spelled { OnOk result (out.new ≡ out.old ++ length (plain_values arguments.now)
+        ∷ flat_map value_spelling (plain_values arguments.now)) }
     ensures values { OnOk result (AllByRecursion IsValue (plain_values arguments.now)) }
 {
     out.put_u8(arguments.len() as u8)?;

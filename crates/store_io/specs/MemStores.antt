@@ -65,7 +65,8 @@ found_answer stores = if fails_at stores.failing stores.next_call then Err Faile
 -- what a founding leaves, before its fault is counted: one that fails may have put the file
 abbrev pub found_tried : {T : Type 0} → Result T StoreFault → List ℕ → List ℕ → MemStoresState → MemStoresState
 found_tried (Ok value) name bytes stores = stores_called (with_file name bytes stores)
-found_tried (Err Failed) name bytes stores = stores_called (if stores.torn == 0 then stores else with_file name bytes stores)
+found_tried (Err Failed) name bytes stores =
+    stores_called (if stores.torn == 0 then stores else with_file name bytes stores)
 found_tried (Err WantOfMemory) name bytes stores = stores
 
 -- a store is out

@@ -28,7 +28,8 @@ impl<S: Store> Store for Blown<S> {
         ensures ok { OnOk result (S.bytes self.new.inner ≡ with_more (S.bytes self.old.inner) piece.now) }
         ensures part { OnErr result (GrowsWithin (S.bytes self.old.inner) (S.bytes self.new.inner) piece.now) }
         ensures safe { S.safe self.new.inner ≡ S.safe self.old.inner }
-        ensures cause { StoreCause (S.faults self.old.inner + self.old.failed) (S.faults self.new.inner + self.new.failed) result }
+        ensures cause { StoreCause (S.faults self.old.inner + self.old.failed)
+            (S.faults self.new.inner + self.new.failed) result }
 
         // Once no call is passed on, each fails, and changes nothing but the count.
         ensures blown { self.old.left ≡ 0 → (result ≡ Err StoreFault.Failed) × (self.new.inner ≡ self.old.inner) }
@@ -47,7 +48,8 @@ impl<S: Store> Store for Blown<S> {
         ensures bytes { S.bytes self.new.inner ≡ S.bytes self.old.inner }
         ensures ok { OnOk result (IsAllSafe (S.bytes self.new.inner) (S.safe self.new.inner)) }
         ensures err { OnErr result (S.safe self.new.inner ≡ S.safe self.old.inner) }
-        ensures cause { StoreCause (S.faults self.old.inner + self.old.failed) (S.faults self.new.inner + self.new.failed) result }
+        ensures cause { StoreCause (S.faults self.old.inner + self.old.failed)
+            (S.faults self.new.inner + self.new.failed) result }
 
         // Once no call is passed on, each fails, and changes nothing but the count.
         ensures blown { self.old.left ≡ 0 → (result ≡ Err StoreFault.Failed) × (self.new.inner ≡ self.old.inner) }
@@ -65,8 +67,10 @@ impl<S: Store> Store for Blown<S> {
     fn cut(&mut self, len: u64) -> Result<(), StoreFault>
         ensures ok { OnOk result (S.bytes self.new.inner ≡ cut_to len (S.bytes self.old.inner)) }
         ensures safe { OnOk result (IsAllSafe (S.bytes self.new.inner) (S.safe self.new.inner)) }
-        ensures err { OnErr result (MayBeCut len (S.bytes self.old.inner) (S.bytes self.new.inner) (S.safe self.old.inner) (S.safe self.new.inner)) }
-        ensures cause { StoreCause (S.faults self.old.inner + self.old.failed) (S.faults self.new.inner + self.new.failed) result }
+        ensures err { OnErr result (MayBeCut len (S.bytes self.old.inner) (S.bytes self.new.inner)
+            (S.safe self.old.inner) (S.safe self.new.inner)) }
+        ensures cause { StoreCause (S.faults self.old.inner + self.old.failed)
+            (S.faults self.new.inner + self.new.failed) result }
 
         // Once no call is passed on, each fails, and changes nothing but the count.
         ensures blown { self.old.left ≡ 0 → (result ≡ Err StoreFault.Failed) × (self.new.inner ≡ self.old.inner) }

@@ -162,7 +162,8 @@ impl Store for MemStore {
     fn cut(&mut self, len: u64) -> Result<(), StoreFault>
         ensures ok { OnOk result (Some self.new.bytes ≡ cut_to len (Some self.old.bytes)) }
         ensures safe { OnOk result (IsAllSafe (Some self.new.bytes) self.new.safe) }
-        ensures err { OnErr result (MayBeCut len (Some self.old.bytes) (Some self.new.bytes) self.old.safe self.new.safe) }
+        ensures err { OnErr result (MayBeCut len (Some self.old.bytes)
+            (Some self.new.bytes) self.old.safe self.new.safe) }
         ensures cause { StoreCause self.old.faults self.new.faults result }
 
         ensures answer { result ≡ store_answer self.old }

@@ -62,7 +62,15 @@ impl MemStores {
         fail_opened: Numbers,
         torn: u64,
     ) -> MemStores
-        ensures { result ≡ record { held = held; out = None; failing = fail; failing_opened = fail_opened; torn = torn; next_call = 1; faults = 0 } }
+        ensures { result ≡ record {
+          held = held;
+          out = None;
+          failing = fail;
+          failing_opened = fail_opened;
+          torn = torn;
+          next_call = 1;
+          faults = 0;
+        } }
     {
         MemStores {
             alloc,
@@ -192,8 +200,10 @@ impl Stores for MemStores {
     }
 
     fn open(&mut self, name: &Text, limit: u64) -> Result<Opened<MemStore>, StoreFault>
-        ensures given { IfOk result (IsOpened (λ store. Some store.bytes) (λ store. store.safe) (content_of self.old name.now) limit) }
-        ensures held { IfOk result (λ opened. content_of self.new name.now ≡ content_after (content_of self.old name.now) opened) }
+        ensures given { IfOk result
+            (IsOpened (λ store. Some store.bytes) (λ store. store.safe) (content_of self.old name.now) limit) }
+        ensures held { IfOk result (λ opened. content_of self.new name.now
+            ≡ content_after (content_of self.old name.now) opened) }
         ensures out { IfOk result (λ opened. is_out self.new name.now ≡ out_after (is_out self.old name.now) opened) }
         ensures err { OnErr result ((content_of self.new name.now ≡ content_of self.old name.now)
             × (is_out self.new name.now ≡ is_out self.old name.now)) }
@@ -226,7 +236,8 @@ impl Stores for MemStores {
 
 /// The bytes of a file, if it has this name, or else what was found before.
 fn newer<'a>(found: Option<&'a Blob>, file: &'a NamedBlob, name: &Text) -> Option<&'a Blob>
-    ensures { option_copied result ≡ (if bytes_eq file.now.name name.now then Some file.now.bytes else option_copied found.entry) }
+    ensures { option_copied result
+        ≡ (if bytes_eq file.now.name name.now then Some file.now.bytes else option_copied found.entry) }
 {
     if file.name.is_text(name) {
         return Some(&file.bytes);

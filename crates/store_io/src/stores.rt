@@ -20,6 +20,7 @@ pub enum Opened<S> {
 
 /// Files by name. A store that was opened belongs to whoever opened it alone, until it comes back.
 pub trait Stores {
+    /// What holds the bytes of one name.
     type Store: Store;
 
     /// What a name holds, as far as it is told.

@@ -46,10 +46,7 @@ pub(crate) fn read_step(alloc: Global, line: &str) -> io::Result<Step> {
 }
 
 fn text(alloc: Global, word: &str) -> io::Result<Text> {
-    match Text::copy(alloc, word) {
-        Ok(text) => Ok(text),
-        Err(WantOfMemory) => Err(ErrorKind::OutOfMemory.into()),
-    }
+    Text::copy(alloc, word).map_err(|_: WantOfMemory| ErrorKind::OutOfMemory.into())
 }
 
 fn bytes(alloc: Global, word: &str) -> io::Result<Vec<u8>> {

@@ -1,6 +1,5 @@
 pub mod TimelyFrames
 pub mod Members
-pub mod TurnSteps
 pub mod PartSteps
 pub mod WholeReplicas
 pub mod PartTakes

@@ -25,11 +25,6 @@ pub all-push : {A : Type 0} (P : A → Type 0) (xs : List A) (x : A) → AllByRe
 all-push P [] x all new = (new, tt)
 all-push P (y ∷ ys) x all new = (all.0, all-push P ys x all.1 new)
 
-pub set-same : {A : Type 0} (xs : List A) (k : ℕ) (x : A) → slice_get xs k ≡ Some x → set xs k x ≡ xs
-set-same [] k x at = absurd cc
-set-same (y ∷ ys) zero x at = let same : y ≡ x = cc in ap (λ z. z ∷ ys) (sym same)
-set-same (y ∷ ys) (suc k) x at = ap (λ zs. y ∷ zs) (set-same ys k x at)
-
 pub set-again : {A : Type 0} (xs : List A) (k : ℕ) (x y : A) → set (set xs k x) k y ≡ set xs k y
 set-again [] k x y = refl
 set-again (z ∷ zs) zero x y = refl

@@ -15,15 +15,13 @@ use Rattle.replica_plain.specs.declared.how.How.TheVariants.{Fresh}
 use Rattle.replica.specs.RealWorlds.{worlds}
 use Rattle.replica.specs.View.{founded_replica, with_plain}
 use Rattle.system_plain.specs.System.{Client, Connection, System, close, connecting, is_open, put_up, view_client, with_client, with_connection, with_down, with_replica}
-use Rattle.system_plain.specs.Steps.{SystemStep, Found, Publish, Pump, Receive, Reconnect, Restart, Snap, Take, Transmit, after_step, connect, may_publish, publish_by, pump_on, receive_by, receive_next, receive_on, reconnect_by, restart_by, snap_by, snap_on, take_on, transmit_by, transmit_on, whole_for}
+use Rattle.system_plain.specs.Steps.{SystemStep, Found, Publish, Receive, Reconnect, Restart, Snap, Transmit, after_step, connect, may_publish, publish_by, receive_by, receive_next, receive_on, reconnect_by, restart_by, snap_by, snap_on, transmit_by, transmit_on, whole_for}
 use Rattle.system_plain.specs.Schedule.{IsTypedStep, SpellsWorld, SpellsWorldBy, SpellsWorldOn}
 use Rattle.system_plain.proofs.StepRows.{found_row}
 use Rattle.system_core.specs.declared.member.Member.{Member}
 use Rattle.system_core.specs.declared.parts.Parts.{Parts}
 use Rattle.system_core.specs.Parts.{AreApart, Connects, IsNoneOf, IsMember, IsSound, Takes, member_view, part_worlds, plain_client, plain_system}
-use Rattle.system_core.specs.Turns.{pump_turn, take_turn}
 use Rattle.system_core.proofs.Members.{all-at, all-push, all-set, apart-push, client-absent, client-changed, client-found, get-set, map-push, set-again, views-set}
-use Rattle.system_core.proofs.TurnSteps.{pump_step, take_step, with_turn}
 
 -- ---- members
 
@@ -102,16 +100,6 @@ keeps-members old new step sound typed spelled program name members made = recor
 -- that cannot be made
 pub unmade : (p : Parts) (step : SystemStep) → IsSound p → IsTypedStep step → SpellsWorld (part_worlds p) (plain_system p) step → after_step (part_worlds p) (plain_system p) step ≡ plain_system p → Takes p p step
 unmade p step sound typed spelled made = keeps-members p p step sound typed spelled refl refl refl (sym made)
-
--- ---- connections
-
-pub turn-takes : (old : Parts) (number now : ℕ) (c : Connection) → slice_get old.connections.items number ≡ Some c
-    → with_turn (plain_system old) number (take_turn old.session.plain old.id c now) ≡ after_step (part_worlds old) (plain_system old) (Take number now)
-turn-takes old number now c at = sym (ap (λ found. take_on (part_worlds old) (plain_system old) number found now) at ∙ take_step (part_worlds old) (plain_system old) number c now at)
-
-pub turn-pumps : (old : Parts) (number now : ℕ) (c : Connection) → slice_get old.connections.items number ≡ Some c
-    → with_turn (plain_system old) number (pump_turn old.session.plain c now) ≡ after_step (part_worlds old) (plain_system old) (Pump number now)
-turn-pumps old number now c at = sym (ap (λ found. pump_on (plain_system old) number found now) at ∙ pump_step (plain_system old) number c now at)
 
 -- ---- open connections
 

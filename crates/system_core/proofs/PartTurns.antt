@@ -9,6 +9,8 @@ use Rattle.world_plain.specs.Messages.{PlainOutgoing}
 use Rattle.world_plain.specs.World.{WorldRecord}
 use Rattle.wire_frames.specs.declared.frame.ServerFrame.{ServerFrame}
 use Rattle.reflector_core.specs.PlainSession.{PlainSession}
+use Rattle.reflector_core.specs.Answer.{answer}
+use Rattle.reflector_core.specs.declared.request.Request.TheVariants as request
 use Rattle.replica_plain.specs.PlainReplica.{PlainReplica, most_published, published_count}
 use Rattle.replica_plain.specs.declared.fault.ReplicaFault.{ReplicaFault}
 use Rattle.replica_plain.specs.declared.fault.ReplicaFault.TheVariants as cause
@@ -16,44 +18,56 @@ use Rattle.replica_plain.specs.Taking.{IsTaken, Taken, taken}
 use Rattle.replica_plain.specs.Calls.{publishes}
 use Rattle.replica.specs.View.{ReplicaView, with_plain, worlds_of}
 use Rattle.system_plain.specs.System.{Connection, System, closing, with_client, with_connection, with_down, with_up}
-use Rattle.system_plain.specs.Steps.{Cut, Publish, Pump, Receive, Take, cut_on, may_publish, publish_by, pump_on, receive_by, take_on}
+use Rattle.system_plain.specs.Steps.{SystemStep, Cut, Publish, Pull, Receive, Take, Tick, after_pull, after_step, after_take, both, cut_on, may_publish, publish_by, pull_on, receive_by, take_on, with_both}
+use Rattle.system_plain.specs.Schedule.{IsTypedStep, SpellsWorld}
 use Rattle.system_plain.proofs.Receives.{taken_view}
 use Rattle.system_core.specs.declared.member.Member.{Member}
 use Rattle.system_core.specs.declared.parts.Parts.{Parts}
 use Rattle.system_core.specs.Parts.{IsNoneOf, IsNoWant, IsMemberPlace, IsSound, Takes, member_view, part_worlds, plain_client, plain_system}
-use Rattle.system_core.specs.Turns.{IsNextDown, pump_turn, take_turn, turn}
-use Rattle.system_core.proofs.Members.{set-same}
-use Rattle.system_core.proofs.PartSteps.{absent-in, changes, found-at, is-member-with, keeps-members, member-at, publishes-not, publishes-step, receives, receives-none, receives-nothing, turn-pumps, turn-takes, unmade, worlds-at}
+use Rattle.system_core.specs.InFlight.{IsNextDown}
+use Rattle.system_plain.proofs.Turns.{set_same}
+use Rattle.system_core.proofs.PartSteps.{absent-in, changes, found-at, is-member-with, keeps-members, member-at, publishes-not, publishes-step, receives, receives-none, receives-nothing, unmade, worlds-at}
 use Rattle.system_core.proofs.PartTakes.{read-member, read-twice}
-use Rattle.system_core.proofs.TurnSteps.{with_turn}
 use Rattle.system_core.proofs.WholeReplicas.{taken_whole}
 
--- ---- Take, Pump
+-- ---- Take, Tick, Pull
 
 abbrev system_of : PlainSession → Parts → List Connection → System WorldRecord PlainOutgoing
 system_of session p connections = record { session = session; clients = (plain_system p).clients; connections = connections }
 
+-- a turn puts its session and its connection back
+turn-takes : (old new : Parts) (step : SystemStep) (number : ℕ) (after : Connection) (session : PlainSession) (turned : PlainSession × Connection) → IsSound old → IsTypedStep step → SpellsWorld (part_worlds old) (plain_system old) step
+    → both session after ≡ turned → new.program ≡ old.program → new.id ≡ old.id → new.members.items ≡ old.members.items → new.session.plain ≡ session → new.connections.items ≡ set old.connections.items number after
+    → with_both (plain_system old) number turned ≡ after_step (part_worlds old) (plain_system old) step → Takes old new step
+turn-takes old new step number after session turned sound typed spelled is program name members held connections made =
+    keeps-members old new step sound typed spelled program name members
+    (ap (λ s. system_of s old new.connections.items) held ∙ ap (system_of session old) connections ∙ ap (with_both (plain_system old) number) is ∙ made)
+
 pub take-past : (p : Parts) (number now : ℕ) → IsSound p → length p.connections.items ≤ number → Takes p p (Take number now)
 take-past p number now sound past = unmade p (Take number now) sound tt tt (ap (λ c. take_on (part_worlds p) (plain_system p) number c now) (slice_get_past p.connections.items number past))
 
-pub pump-past : (p : Parts) (number now : ℕ) → IsSound p → length p.connections.items ≤ number → Takes p p (Pump number now)
-pump-past p number now sound past = unmade p (Pump number now) sound tt tt (ap (λ c. pump_on (plain_system p) number c now) (slice_get_past p.connections.items number past))
-
 pub take-takes : (old new : Parts) (number now : ℕ) (c after : Connection) (session : PlainSession) → IsSound old → number < length old.connections.items → c ≡ get_or old.connections.items number c
-    → turn session after ≡ take_turn old.session.plain old.id c now → new.program ≡ old.program → new.id ≡ old.id → new.members.items ≡ old.members.items
+    → both session after ≡ after_take old.id old.session.plain c now → new.program ≡ old.program → new.id ≡ old.id → new.members.items ≡ old.members.items
     → new.session.plain ≡ session → new.connections.items ≡ set old.connections.items number after → Takes old new (Take number now)
 take-takes old new number now c after session sound within at is program name members held connections =
-    keeps-members old new (Take number now) sound tt tt program name members
-    (ap (λ s. system_of s old new.connections.items) held ∙ ap (system_of session old) connections ∙ ap (with_turn (plain_system old) number) is
-    ∙ turn-takes old number now c (slice_get_read old.connections.items _ number c refl within at))
+    turn-takes old new (Take number now) number after session (after_take old.id old.session.plain c now) sound tt tt is program name members held connections
+    (sym (ap (λ found. take_on (part_worlds old) (plain_system old) number found now) (slice_get_read old.connections.items _ number c refl within at)))
 
-pub pump-takes : (old new : Parts) (number now : ℕ) (c after : Connection) (session : PlainSession) → IsSound old → number < length old.connections.items → c ≡ get_or old.connections.items number c
-    → turn session after ≡ pump_turn old.session.plain c now → new.program ≡ old.program → new.id ≡ old.id → new.members.items ≡ old.members.items
-    → new.session.plain ≡ session → new.connections.items ≡ set old.connections.items number after → Takes old new (Pump number now)
-pump-takes old new number now c after session sound within at is program name members held connections =
-    keeps-members old new (Pump number now) sound tt tt program name members
-    (ap (λ s. system_of s old new.connections.items) held ∙ ap (system_of session old) connections ∙ ap (with_turn (plain_system old) number) is
-    ∙ turn-pumps old number now c (slice_get_read old.connections.items _ number c refl within at))
+pub tick-takes : (old new : Parts) (now : ℕ) → IsSound old → new.program ≡ old.program → new.id ≡ old.id → new.members.items ≡ old.members.items
+    → new.session.plain ≡ (answer old.session.plain (request.Tick now)).session → new.connections.items ≡ old.connections.items → Takes old new (Tick now)
+tick-takes old new now sound program name members held connections =
+    keeps-members old new (Tick now) sound tt tt program name members
+    (ap (λ s. system_of s old new.connections.items) held ∙ ap (system_of (answer old.session.plain (request.Tick now)).session old) connections)
+
+pub pull-past : (p : Parts) (number : ℕ) → IsSound p → length p.connections.items ≤ number → Takes p p (Pull number)
+pull-past p number sound past = unmade p (Pull number) sound tt tt (ap (pull_on (plain_system p) number) (slice_get_past p.connections.items number past))
+
+pub pull-takes : (old new : Parts) (number : ℕ) (c after : Connection) (session : PlainSession) → IsSound old → number < length old.connections.items → c ≡ get_or old.connections.items number c
+    → both session after ≡ after_pull old.session.plain c → new.program ≡ old.program → new.id ≡ old.id → new.members.items ≡ old.members.items
+    → new.session.plain ≡ session → new.connections.items ≡ set old.connections.items number after → Takes old new (Pull number)
+pull-takes old new number c after session sound within at is program name members held connections =
+    turn-takes old new (Pull number) number after session (after_pull old.session.plain c) sound tt tt is program name members held connections
+    (sym (ap (pull_on (plain_system old) number) (slice_get_read old.connections.items _ number c refl within at)))
 
 -- ---- Cut
 
@@ -88,7 +102,7 @@ receive-nothing old new k view x c after sound placed is within at next program 
     let there = slice_get_read old.connections.items _ x.newest c refl within at in
     keeps-members old new (Receive view) sound tt tt program name members
     (ap (λ s. system_of s old new.connections.items) held
-    ∙ ap (system_of old.session.plain old) (connections ∙ ap (set old.connections.items x.newest) next.1 ∙ set-same old.connections.items x.newest c there)
+    ∙ ap (system_of old.session.plain old) (connections ∙ ap (set old.connections.items x.newest) next.1 ∙ set_same old.connections.items x.newest c there)
     ∙ sym (receives-nothing (part_worlds old) (plain_system old) view (plain_client x) c (found-at old k view x sound read.0 read.1) there next.0))
 
 pub receive-takes : (old new : Parts) (k view : ℕ) (x y : Member) (c after : Connection) (frame : ServerFrame) (replica : ReplicaView) → IsSound old → IsMemberPlace (Some k) old.members.items view
@@ -146,7 +160,7 @@ pub publish-refused : (old new : Parts) (k view : ℕ) (y : Member) (payload : L
 publish-refused old new k view y payload replica sound placed read may keeps same program name held connections members =
     let found = read-member old.members.items k view y placed read in
     keeps-members old new (Publish view payload) sound tt tt program name
-    (members ∙ ap (λ (r : ReplicaView). set old.members.items k (let m : Member = record { view = y.view; replica = r; newest = y.newest } in m)) (keeps ∙ ap (with_plain y.replica) same) ∙ set-same old.members.items k y found.0)
+    (members ∙ ap (λ (r : ReplicaView). set old.members.items k (let m : Member = record { view = y.view; replica = r; newest = y.newest } in m)) (keeps ∙ ap (with_plain y.replica) same) ∙ set_same old.members.items k y found.0)
     (ap (λ s. system_of s old new.connections.items) held ∙ ap (system_of old.session.plain old) connections
     ∙ sym (publishes-not (part_worlds old) (plain_system old) view payload (plain_client y) (found-at old k view y sound found.0 found.1) may))
 

@@ -1,4 +1,4 @@
-pub mod Turns
+pub mod InFlight
 pub mod Schedules
 pub mod Parts
 pub mod Systems

@@ -54,7 +54,11 @@ abbrev pub part_worlds : Parts → Worlds WorldRecord PlainOutgoing
 part_worlds p = worlds (founding_of (arc_value p.program)) p.id.0
 
 abbrev pub plain_system : Parts → System WorldRecord PlainOutgoing
-plain_system p = record { session = p.session.plain; clients = map plain_client p.members.items; connections = p.connections.items }
+plain_system p = record {
+  session = p.session.plain;
+  clients = map plain_client p.members.items;
+  connections = p.connections.items;
+}
 
 pub record IsSound (p : Parts) : Type 0 where
   pub founded : IsFounding (founding_of (arc_value p.program))
@@ -77,8 +81,14 @@ pub record Connects (old new : Parts) (place : ℕ) (how : How) : Type 0 where
   pub program : new.program ≡ old.program
   pub session : new.id ≡ old.id
   pub stands : new.session.plain ≡ old.session.plain
-  pub members : new.members.items ≡ set old.members.items place (record { view = member.view; replica = with_plain member.replica (joining member.replica.plain how); newest = length old.connections.items })
-  pub connections : new.connections.items ≡ close old.connections.items member.newest ++ connecting member.replica.plain.view (join_frame (part_worlds old) member.replica.plain how) ∷ []
+  pub members : new.members.items
+      ≡ set old.members.items place (record {
+        view = member.view;
+        replica = with_plain member.replica (joining member.replica.plain how);
+        newest = length old.connections.items;
+      })
+  pub connections : new.connections.items ≡ close old.connections.items member.newest
+      ++ connecting member.replica.plain.view (join_frame (part_worlds old) member.replica.plain how) ∷ []
 
 -- a member stands at the place
 abbrev pub HasMember : Parts → ℕ → Type 0

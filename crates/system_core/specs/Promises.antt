@@ -20,20 +20,24 @@ IsClient s view client = view_client s.plain.clients view ≡ Some client
 
 -- Every replica follows the log, and has seen the entries of its time. One that is at rest is the replay of the log to its time.
 pub record ReplicasFollow (s : SystemView) : Type 0 where
-  pub follow : (view : ℕ) (client : Client WorldRecord PlainOutgoing) → IsClient s view client → FollowsLog (system_worlds s) s.plain.session.log client.replica
-  pub replay : (view : ℕ) (client : Client WorldRecord PlainOutgoing) → IsClient s view client → is_at_rest client.replica.world ≡ true
+  pub follow : (view : ℕ) (client : Client WorldRecord PlainOutgoing) → IsClient s view client
+      → FollowsLog (system_worlds s) s.plain.session.log client.replica
+  pub replay : (view : ℕ) (client : Client WorldRecord PlainOutgoing) → IsClient s view client
+      → is_at_rest client.replica.world ≡ true
       → client.replica.world ≡ (replay (founding_of s.program) s.id s.plain.session.log client.replica.world.time).world
 
 -- Two replicas of one time that are at rest have equal snapshot bytes.
 abbrev pub EqualSnapshots : SystemView → Type 0
 EqualSnapshots s =
     (view other : ℕ) (one two : Client WorldRecord PlainOutgoing) → IsClient s view one → IsClient s other two
-    → is_at_rest one.replica.world ≡ true → is_at_rest two.replica.world ≡ true → one.replica.world.time ≡ two.replica.world.time
+    → is_at_rest one.replica.world ≡ true → is_at_rest two.replica.world ≡ true
+    → one.replica.world.time ≡ two.replica.world.time
     → world_spelling one.replica.world ≡ world_spelling two.replica.world
 
 -- The number that a replica counts as acknowledged is at most that of its view's last event in the log.
 abbrev pub AreAcknowledged : SystemView → Type 0
-AreAcknowledged s = (view : ℕ) (client : Client WorldRecord PlainOutgoing) → IsClient s view client → client.replica.acknowledged ≤ last_number s.plain.session.log view
+AreAcknowledged s = (view : ℕ) (client : Client WorldRecord PlainOutgoing) → IsClient s view client
+    → client.replica.acknowledged ≤ last_number s.plain.session.log view
 
 -- No replica answered a frame that it received by Unasked, OutOfOrder, Back or BadBase, and no SEND was answered Differs.
 pub record HaveNoSurprise (m : Worlds WorldRecord PlainOutgoing) (steps : List SystemStep) : Type 0 where

@@ -2,14 +2,13 @@
 ghost use Rattle.std.specs.Prelude.{◌≡◌, take, None, Some, OnOk, IfOk};
 ghost use Rattle.std.specs.List.{AllByRecursion};
 ghost use Rattle.replica_plain.specs.Taking.{IsTimely};
-ghost use Rattle.reflector_core.specs.Answer.{answer};
 ghost use Rattle.reflector_core.specs.PlainSession.{IsSoundSession};
-ghost use Rattle.reflector_core.specs.declared.request.Request.TheVariants.{Pull};
+ghost use Rattle.join_sync.specs.declared.act.Act.TheVariants.{Call};
 ghost use Rattle.join_sync.specs.Requests.{IsJoin, IsOfFrame, act_on};
-ghost use Rattle.join_sync.specs.Batches.{most_pulled};
 ghost use Rattle.system_plain.specs.System.{close, closing, connecting, is_open, over_if, put_down, put_up, with_down, with_up};
-ghost use Rattle.system_plain.specs.Steps.{answer_frames, ends_connection, joined_view};
-ghost use Rattle.system_core.specs.Turns.{IsNextDown, IsNextUp, act_turn, ask_turn, hear_turn, join_turn, leave_turn, pump_turn, send_turn, take_turn, turn};
+ghost use Rattle.system_plain.specs.Turn.{act_turn, answer_frames, ends_connection, hear_turn, joined_view, pull_turn};
+ghost use Rattle.system_plain.specs.Steps.{after_leave, after_pull, after_take, behind_turn, both};
+ghost use Rattle.system_core.specs.InFlight.{IsNextDown, IsNextUp};
 
 use join_sync::{Act, Cursor, MOST_PULLED, open, replies_fit};
 use reflector_core::{Refusal, Reply, Request, Session};
@@ -37,7 +36,14 @@ impl Model for Connection {
 
     ghost Value = { PlainConnection };
 
-    ghost view = { λ c. record { view = c.view; up = c.up.items; down = c.down.items; cursor = c.cursor; closed = c.closed; over = c.over } };
+    ghost view = { λ c. record {
+      view = c.view;
+      up = c.up.items;
+      down = c.down.items;
+      cursor = c.cursor;
+      closed = c.closed;
+      over = c.over;
+    } };
 
     ghost invariant = { λ c. AllByRecursion IsTimely c.down.items };
 }
@@ -195,7 +201,7 @@ impl Connection {
         id: &SessionId,
         now: u64,
     ) -> Result<(), WantOfMemory>
-        ensures { OnOk result (turn session.new.plain self.new ≡ take_turn session.old.plain id.now self.old now) }
+        ensures { OnOk result (both session.new.plain self.new ≡ after_take id.now session.old.plain self.old now) }
     {
         if self.over {
             return Ok(());
@@ -217,7 +223,9 @@ impl Connection {
         frame: ClientFrame,
         now: u64,
     ) -> Result<(), WantOfMemory>
-        ensures { OnOk result (turn session.new.plain self.new ≡ hear_turn session.old.plain id.now self.old None frame now) }
+        requires { self.old.cursor ≡ None }
+        ensures { OnOk result (both session.new.plain self.new
+            ≡ behind_turn self.old (hear_turn id.now session.old.plain None (Some frame) now)) }
     {
         match open(&frame, id, now) {
             Ok(request) => self.join(session, &request),
@@ -232,9 +240,10 @@ impl Connection {
     /// It asks for its first request.
     fn join(&mut self, session: &mut Session, request: &Request) -> Result<(), WantOfMemory>
         requires { IsJoin request.now }
-        ensures { OnOk result (turn session.new.plain self.new ≡ join_turn session.old.plain self.old request.now) }
+        ensures { OnOk result (both session.new.plain self.new
+            ≡ behind_turn self.old (act_turn session.old.plain None (Call request.now))) }
     {
-        replies_fit();
+        replies_fit(); // for the prover
         let reply = session.call(request)?;
         let (cursor, frame) = Cursor::opened(joined_view(request), reply);
         self.cursor = cursor;
@@ -251,9 +260,11 @@ impl Connection {
         frame: ClientFrame,
         now: u64,
     ) -> Result<(), WantOfMemory>
-        ensures { OnOk result (turn session.new.plain self.new ≡ act_turn session.old.plain self.old (act_on cursor.now frame now)) }
+        requires { self.old.cursor ≡ Some cursor.now }
+        ensures { OnOk result (both session.new.plain self.new
+            ≡ behind_turn self.old (act_turn session.old.plain (Some cursor.now) (act_on cursor.now frame now))) }
     {
-        replies_fit();
+        replies_fit(); // for the prover
         match cursor.act(frame, now) {
             Act::Call(request) => self.ask(session, cursor, &request),
             Act::Answer(frame) => self.answer(Some(frame)),
@@ -267,10 +278,12 @@ impl Connection {
         cursor: &Cursor,
         request: &Request,
     ) -> Result<(), WantOfMemory>
-        requires { IsOfFrame request.now }
-        ensures { OnOk result (turn session.new.plain self.new ≡ ask_turn session.old.plain self.old request.now) }
+        requires frame { IsOfFrame request.now }
+        requires cursor { self.old.cursor ≡ Some cursor.now }
+        ensures { OnOk result (both session.new.plain self.new
+            ≡ behind_turn self.old (act_turn session.old.plain (Some cursor.now) (Call request.now))) }
     {
-        replies_fit();
+        replies_fit(); // for the prover
         let reply = session.call(request)?;
         self.answer(cursor.answer(request, &reply))?;
         self.over_if(ends_connection(&reply));
@@ -279,7 +292,8 @@ impl Connection {
 
     /// No frame will come any more on a closed connection: its view leaves.
     fn leave(&mut self, session: &mut Session, now: u64) -> Result<(), WantOfMemory>
-        ensures { OnOk result (turn session.new.plain self.new ≡ leave_turn session.old.plain self.old self.old.cursor now) }
+        ensures { OnOk result (both session.new.plain self.new
+            ≡ after_leave session.old.plain self.old self.old.cursor now) }
     {
         let Some(cursor) = self.cursor else {
             return Ok(());
@@ -296,14 +310,9 @@ impl Connection {
         Ok(())
     }
 
-    /// The reflector ticks, and sends what is new.
-    pub(crate) fn pump(
-        &mut self,
-        alloc: Global,
-        session: &mut Session,
-        now: u64,
-    ) -> Result<(), WantOfMemory>
-        ensures { OnOk result (turn session.new.plain self.new ≡ pump_turn session.old.plain self.old now) }
+    /// The reflector sends what is new.
+    pub(crate) fn pull(&mut self, alloc: Global, session: &mut Session) -> Result<(), WantOfMemory>
+        ensures { OnOk result (both session.new.plain self.new ≡ after_pull session.old.plain self.old) }
     {
         if self.over {
             return Ok(());
@@ -311,7 +320,8 @@ impl Connection {
         let Some(cursor) = self.cursor else {
             return Ok(());
         };
-        let _ticked = session.call(&Request::Tick { now })?;
+        // What is so of every session is told by this call.
+        let _horizon = session.horizon(); // for the prover
         self.send(alloc, session, cursor)
     }
 
@@ -322,10 +332,12 @@ impl Connection {
         session: &mut Session,
         cursor: Cursor,
     ) -> Result<(), WantOfMemory>
-        requires { IsSoundSession session.old.plain }
-        ensures { OnOk result (turn session.new.plain self.new ≡ send_turn session.old.plain self.old cursor (answer session.old.plain (Pull cursor.after most_pulled)).reply) }
+        requires sound { IsSoundSession session.old.plain }
+        requires cursor { self.old.cursor ≡ Some cursor }
+        ensures { OnOk result (both session.new.plain self.new
+            ≡ behind_turn self.old (pull_turn session.old.plain cursor)) }
     {
-        replies_fit();
+        replies_fit(); // for the prover
         let reply = session.call(&Request::Pull {
             after: cursor.after(),
             limit: MOST_PULLED,

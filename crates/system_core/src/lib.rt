@@ -52,14 +52,16 @@ pub fn run(
     ensures schedule_legal_log { IfOk result (λ s. IsLegal s.plain.session.log) }
     ensures schedule_replicas_follow { IfOk result (λ s. ReplicasFollow s) }
     ensures schedule_equal_snapshots { IfOk result (λ s. EqualSnapshots s) }
-    ensures schedule_kept_is_honest { IfOk result (λ s. IsHonestBase (system_worlds s) s.plain.session.log s.plain.session.kept) }
-    ensures schedule_events_once { IfOk result (λ s. HasEventsOnce s.plain.session.log (published_in (system_worlds s) (plain_steps steps.now))) }
+    ensures schedule_kept_is_honest { IfOk result (λ s.
+        IsHonestBase (system_worlds s) s.plain.session.log s.plain.session.kept) }
+    ensures schedule_events_once { IfOk result (λ s.
+        HasEventsOnce s.plain.session.log (published_in (system_worlds s) (plain_steps steps.now))) }
     ensures schedule_acknowledged { IfOk result (λ s. AreAcknowledged s) }
     ensures schedule_no_surprise { IfOk result (λ s. HaveNoSurprise (system_worlds s) (plain_steps steps.now)) }
 {
-    worlds_stand();
-    worlds_replay();
-    tell_program(&program);
+    worlds_stand(); // for the prover
+    worlds_replay(); // for the prover
+    tell_program(&program); // for the prover
     let mut system = System::first(alloc, program, id)?;
     let list = steps.as_slice();
     for step in list {

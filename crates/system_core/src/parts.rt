@@ -3,7 +3,7 @@ ghost use Rattle.std.specs.Prelude.{◌≡◌, OnOk};
 ghost use Rattle.model_value.specs.Payload.{payload_spelling};
 ghost use Rattle.model_value.specs.Plain.{InBounds};
 ghost use Rattle.model_value.specs.View.{plain};
-ghost use Rattle.system_plain.specs.Steps.{Cut, Found, Publish, Pump, Receive, Reconnect, Restart, Snap, Take, Transmit, whole_for};
+ghost use Rattle.system_plain.specs.Steps.{Cut, Found, Publish, Pull, Receive, Reconnect, Restart, Snap, Take, Tick, Transmit, whole_for};
 ghost use Rattle.system_core.specs.Parts.{Connects, HasMember, IsNoWant, IsMemberPlace, IsSound, Takes};
 ghost use Rattle.system_core.specs.Schedules.{IsInBounds, plain_system_step};
 
@@ -12,7 +12,7 @@ use crate::member::{Member, place};
 use crate::step::ScheduleStep;
 use model_solved::Checked;
 use model_value::Value;
-use reflector_core::Session;
+use reflector_core::{Request, Session};
 use replica::Replica;
 use replica_plain::{How, PublishRefusal, ReplicaFault};
 use std::alloc::Global;
@@ -85,7 +85,8 @@ impl Parts {
             } => self.publish(*view, scope, event, value),
             ScheduleStep::Transmit { view } => self.transmit(*view),
             ScheduleStep::Take { connection, now } => self.take(*connection, *now),
-            ScheduleStep::Pump { connection, now } => self.pump(*connection, *now),
+            ScheduleStep::Tick { now } => self.tick(*now),
+            ScheduleStep::Pull { connection } => self.pull(*connection),
             ScheduleStep::Receive { view } => self.receive(*view),
             ScheduleStep::Cut {
                 connection,
@@ -135,7 +136,12 @@ impl Parts {
     ) -> Result<(), WantOfMemory>
         requires sound { IsSound self.old }
         requires bounds { InBounds (plain value.now) }
-        ensures { OnOk result (Takes self.old self.new (Publish view (payload_spelling (record { scope = scope.now; event = event.now; value = plain value.now })))) }
+        ensures { OnOk result (Takes self.old self.new
+            (Publish view (payload_spelling (record {
+              scope = scope.now;
+              event = event.now;
+              value = plain value.now;
+            })))) }
     {
         let Some(place) = self.place(view) else {
             return Ok(());
@@ -177,15 +183,23 @@ impl Parts {
         self.connections[number].take(&mut self.session, &self.id, now)
     }
 
-    fn pump(&mut self, connection: u32, now: u64) -> Result<(), WantOfMemory>
+    fn tick(&mut self, now: u64) -> Result<(), WantOfMemory>
         requires { IsSound self.old }
-        ensures { OnOk result (Takes self.old self.new (Pump connection now)) }
+        ensures { OnOk result (Takes self.old self.new (Tick now)) }
+    {
+        let _reply = self.session.call(&Request::Tick { now })?;
+        Ok(())
+    }
+
+    fn pull(&mut self, connection: u32) -> Result<(), WantOfMemory>
+        requires { IsSound self.old }
+        ensures { OnOk result (Takes self.old self.new (Pull connection)) }
     {
         let number = connection as usize;
         if number >= self.connections.len() {
             return Ok(());
         }
-        self.connections[number].pump(self.alloc, &mut self.session, now)
+        self.connections[number].pull(self.alloc, &mut self.session)
     }
 
     fn receive(&mut self, view: u32) -> Result<(), WantOfMemory>

@@ -26,10 +26,13 @@ pub enum ScheduleStep {
         connection: u32,
         now: u64,
     },
-    /// The reflector ticks, and sends what is new on a connection.
-    Pump {
-        connection: u32,
+    /// The session's time goes on.
+    Tick {
         now: u64,
+    },
+    /// The reflector sends what is new on a connection.
+    Pull {
+        connection: u32,
     },
     /// The view takes the next frame of its newest connection.
     Receive {

@@ -38,7 +38,12 @@ impl Model for System {
 
     ghost Value = { SystemView };
 
-    ghost coded = { Prim.hlevel (codes, coded_checked (Prim.hlevel (codes, stmt.the_row.coded)), coded_world, coded_outgoing) };
+    ghost coded = { Prim.hlevel (
+      codes,
+      coded_checked (Prim.hlevel (codes, stmt.the_row.coded)),
+      coded_world,
+      coded_outgoing,
+    ) };
 
     ghost view = { λ s. system_view s.parts s.spoilt };
 
@@ -62,7 +67,7 @@ impl System {
     ) -> Result<System, WantOfMemory>
         ensures { IfOk result (λ s. s ≡ first_view (arc_value program) id.0) }
     {
-        tell_program(&program);
+        tell_program(&program); // for the prover
         let parts = Parts {
             alloc,
             program,

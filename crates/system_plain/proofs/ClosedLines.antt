@@ -1,23 +1,20 @@
 -- A line that is closed: nothing more is sent on it, and of what was sent the end may be lost.
-use Rattle.std.specs.Str.{bytes_eq}
-use Rattle.std.proofs.Common.{ℕ, ◌≡◌, ◌⊎◌, inl, inr, Bool, true, false, cond, List, [], ◌∷◌, ◌++◌, Option, Some, None, Ok, Err, refl, sym, ap, ◌∙◌, subst, append_assoc}
+use Rattle.std.proofs.Common.{ℕ, ◌≡◌, ◌⊎◌, inl, inr, Bool, true, false, List, [], ◌∷◌, ◌++◌, Option, Some, None, refl, sym, ap, ◌∙◌, subst, append_assoc}
 use Rattle.tea_base.specs.declared.entry.Entry.{Entry}
 use Rattle.tea_base.specs.declared.entry.SessionId.{SessionId}
 use Rattle.wire_frames.specs.declared.frame.ClientFrame.{ClientFrame}
 use Rattle.wire_frames.specs.declared.frame.ClientFrame.TheVariants as up
 use Rattle.wire_frames.specs.declared.frame.ServerFrame.{ServerFrame}
 use Rattle.wire_frames.specs.declared.frame.ServerFrame.TheVariants.{Alive, Done, Recv, Refused, Snapped, Sync, Tick}
-use Rattle.wire_frames.specs.declared.start.Want.{Want}
 use Rattle.wire_frames.specs.Served.{AnswersInOrder, Served, Streams, answers_of}
 use Rattle.wire_frames.proofs.Streams.{Streams-front}
 use Rattle.reflector_core.specs.declared.request.Reply.{Reply}
 use Rattle.reflector_core.specs.declared.request.Reply.TheVariants as reply
 use Rattle.reflector_core.specs.declared.request.Request.TheVariants as request
-use Rattle.reflector_core.specs.Answer.{answer, tick}
+use Rattle.reflector_core.specs.Answer.{answer}
 use Rattle.reflector_core.specs.PlainSession.{PlainSession}
 use Rattle.join_sync.specs.declared.cursor.Cursor.{Cursor}
-use Rattle.join_sync.specs.declared.early.Early.TheVariants.{OtherSession}
-use Rattle.system_plain.specs.ConnectionLine.{ConnectionLine, hears, hears_first, line_on, pumps, pumps_batch}
+use Rattle.system_plain.specs.ConnectionLine.{ConnectionLine, hears, line_on, pulls}
 use Rattle.system_plain.proofs.Facts.{TicksWithin}
 use Rattle.system_plain.proofs.Lines.{LineSends, Stands, answers_of-append, in_order_more, line_stands_grow, sends_grow, sends_with, served_of}
 use Rattle.system_plain.proofs.Sessions.{Grows}
@@ -185,67 +182,15 @@ resent : (session : PlainSession) (cursor : Option Cursor) (over : Bool) (given 
     → record { session = session; cursor = cursor; over = over; given = given; sent = (front ++ sent) ++ more } ≡ prefixed front (record { session = session; cursor = cursor; over = over; given = given; sent = sent ++ more })
 resent session cursor over given front sent more = ap (λ (l : List ServerFrame). record { session = session; cursor = cursor; over = over; given = given; sent = l }) (append_assoc front sent more)
 
-join_prefixed : (s : PlainSession) (given : List (Option ClientFrame)) (front sent : List ServerFrame) (session : SessionId) (view : ℕ) (want : Want) (now : ℕ) (own : Bool)
-    → hears_first (line_on s None given (front ++ sent)) (up.Join session view want) (cond own (Ok (request.Join view now want)) (Err OtherSession))
-    ≡ prefixed front (hears_first (line_on s None given sent) (up.Join session view want) (cond own (Ok (request.Join view now want)) (Err OtherSession)))
-join_prefixed s given front sent session view want now true = resent _ _ _ _ front sent _
-join_prefixed s given front sent session view want now false = resent _ _ _ _ front sent _
-
 -- what it hears adds the same
 pub hears_prefixed : (id : SessionId) (s : PlainSession) (cursor : Option Cursor) (given : List (Option ClientFrame)) (front sent : List ServerFrame) (frame : ClientFrame) (now : ℕ)
     → hears id (line_on s cursor given (front ++ sent)) cursor (Some frame) now ≡ prefixed front (hears id (line_on s cursor given sent) cursor (Some frame) now)
-hears_prefixed id s None given front sent (up.Join session view want) now = join_prefixed s given front sent session view want now (bytes_eq session.0 id.0)
-hears_prefixed id s None given front sent (up.Send number payload) now = resent _ _ _ _ front sent _
-hears_prefixed id s None given front sent (up.Snap time bytes) now = resent _ _ _ _ front sent _
-hears_prefixed id s None given front sent up.Leave now = resent _ _ _ _ front sent _
-hears_prefixed id s None given front sent up.Alive now = resent _ _ _ _ front sent _
-hears_prefixed id s (Some cursor) given front sent (up.Join session view want) now = resent _ _ _ _ front sent _
-hears_prefixed id s (Some cursor) given front sent (up.Send number payload) now = resent _ _ _ _ front sent _
-hears_prefixed id s (Some cursor) given front sent (up.Snap time bytes) now = resent _ _ _ _ front sent _
-hears_prefixed id s (Some cursor) given front sent up.Leave now = resent _ _ _ _ front sent _
-hears_prefixed id s (Some cursor) given front sent up.Alive now = resent _ _ _ _ front sent _
+hears_prefixed id s cursor given front sent frame now = resent _ _ _ _ front sent _
 
-join_hears_given : (s : PlainSession) (given : List (Option ClientFrame)) (sent : List ServerFrame) (session : SessionId) (view : ℕ) (want : Want) (now : ℕ) (own : Bool)
-    → (hears_first (line_on s None given sent) (up.Join session view want) (cond own (Ok (request.Join view now want)) (Err OtherSession))).given ≡ given ++ Some (up.Join session view want) ∷ []
-join_hears_given s given sent session view want now true = refl
-join_hears_given s given sent session view want now false = refl
+pub pulls_prefixed : (s : PlainSession) (cursor : Option Cursor) (given : List (Option ClientFrame)) (front sent : List ServerFrame) → pulls (line_on s cursor given (front ++ sent)) cursor ≡ prefixed front (pulls (line_on s cursor given sent) cursor)
+pulls_prefixed s None given front sent = refl
+pulls_prefixed s (Some cursor) given front sent = resent _ _ _ _ front sent _
 
-pub hears_given : (id : SessionId) (s : PlainSession) (cursor : Option Cursor) (given : List (Option ClientFrame)) (sent : List ServerFrame) (frame : ClientFrame) (now : ℕ) → (hears id (line_on s cursor given sent) cursor (Some frame) now).given ≡ given ++ Some frame ∷ []
-hears_given id s None given sent (up.Join session view want) now = join_hears_given s given sent session view want now (bytes_eq session.0 id.0)
-hears_given id s None given sent (up.Send number payload) now = refl
-hears_given id s None given sent (up.Snap time bytes) now = refl
-hears_given id s None given sent up.Leave now = refl
-hears_given id s None given sent up.Alive now = refl
-hears_given id s (Some cursor) given sent (up.Join session view want) now = refl
-hears_given id s (Some cursor) given sent (up.Send number payload) now = refl
-hears_given id s (Some cursor) given sent (up.Snap time bytes) now = refl
-hears_given id s (Some cursor) given sent up.Leave now = refl
-hears_given id s (Some cursor) given sent up.Alive now = refl
-
-batch_prefixed : (s new : PlainSession) (cursor : Cursor) (given : List (Option ClientFrame)) (front sent : List ServerFrame) (answered : Reply) → pumps_batch (line_on s (Some cursor) given (front ++ sent)) cursor new answered ≡ prefixed front (pumps_batch (line_on s (Some cursor) given sent) cursor new answered)
-batch_prefixed s new cursor given front sent (reply.Batch entries tick) = resent _ _ _ _ front sent _
-batch_prefixed s new cursor given front sent (reply.Joined seq time last from base) = refl
-batch_prefixed s new cursor given front sent (reply.Stamped seq time) = refl
-batch_prefixed s new cursor given front sent (reply.Again seq time) = refl
-batch_prefixed s new cursor given front sent (reply.Ticked time) = refl
-batch_prefixed s new cursor given front sent (reply.Left seq time) = refl
-batch_prefixed s new cursor given front sent reply.Kept = refl
-batch_prefixed s new cursor given front sent (reply.Refused why) = refl
-
-pub pumps_prefixed : (s : PlainSession) (cursor : Option Cursor) (given : List (Option ClientFrame)) (front sent : List ServerFrame) (now : ℕ) → pumps (line_on s cursor given (front ++ sent)) cursor now ≡ prefixed front (pumps (line_on s cursor given sent) cursor now)
-pumps_prefixed s None given front sent now = refl
-pumps_prefixed s (Some cursor) given front sent now = batch_prefixed s (answer s (request.Tick now)).session cursor given front sent _
-
-batch_given : (s new : PlainSession) (cursor : Cursor) (given : List (Option ClientFrame)) (sent : List ServerFrame) (answered : Reply) → (pumps_batch (line_on s (Some cursor) given sent) cursor new answered).given ≡ given
-batch_given s new cursor given sent (reply.Batch entries tick) = refl
-batch_given s new cursor given sent (reply.Joined seq time last from base) = refl
-batch_given s new cursor given sent (reply.Stamped seq time) = refl
-batch_given s new cursor given sent (reply.Again seq time) = refl
-batch_given s new cursor given sent (reply.Ticked time) = refl
-batch_given s new cursor given sent (reply.Left seq time) = refl
-batch_given s new cursor given sent reply.Kept = refl
-batch_given s new cursor given sent (reply.Refused why) = refl
-
-pub pumps_given : (s : PlainSession) (cursor : Option Cursor) (given : List (Option ClientFrame)) (sent : List ServerFrame) (now : ℕ) → (pumps (line_on s cursor given sent) cursor now).given ≡ given
-pumps_given s None given sent now = refl
-pumps_given s (Some cursor) given sent now = batch_given s (answer s (request.Tick now)).session cursor given sent _
+pub pulls_given : (s : PlainSession) (cursor : Option Cursor) (given : List (Option ClientFrame)) (sent : List ServerFrame) → (pulls (line_on s cursor given sent) cursor).given ≡ given
+pulls_given s None given sent = refl
+pulls_given s (Some cursor) given sent = refl

@@ -8,15 +8,16 @@ use Rattle.wire_frames.specs.declared.tags.TheConstants.{JOIN_TAG}
 use Rattle.wire_frames.specs.declared.code.RefusalCode.TheVariants as code
 use Rattle.wire_frames.specs.Codes.{code_number}
 use Rattle.reflector_core.specs.declared.request.Reply.TheVariants as reply
+use Rattle.reflector_core.specs.declared.request.Request.TheVariants as request
 use Rattle.reflector_core.specs.Play.{first_session}
 use Rattle.replica_plain.specs.declared.fault.ReplicaFault.{ReplicaFault}
 use Rattle.replica_plain.specs.declared.fault.ReplicaFault.TheVariants as cause
 use Rattle.replica_plain.specs.declared.how.How.TheVariants.{Resume, Whole}
 use Rattle.replica_plain.specs.Worlds.{AreWorlds, Worlds}
 use Rattle.replica_plain.proofs.CountedWorlds.{Counter, counters_are_worlds, counters_from}
-use Rattle.system_plain.specs.ConnectionLine.{Hears, Pumps, after_turns, first_line, unread_frame}
+use Rattle.system_plain.specs.ConnectionLine.{Hears, Others, Pulls, after_turns, first_line, unread_frame}
 use Rattle.system_plain.specs.Schedule.{AreTypedSteps, IsSchedule, after_schedule, faults_from, faults_in, published_in, replies_in}
-use Rattle.system_plain.specs.Steps.{Cut, Found, Publish, Pump, Receive, Reconnect, Restart, Snap, SystemStep, Take, Transmit}
+use Rattle.system_plain.specs.Steps.{Cut, Found, Publish, Pull, Receive, Reconnect, Restart, Snap, SystemStep, Take, Tick as Ticks, Transmit}
 use Rattle.system_plain.specs.System.{first_system, view_client}
 use Rattle.system_plain.specs.Traffic.{traffics_in}
 use Rattle.system_plain.proofs.Schedules.{all_are_schedules}
@@ -33,7 +34,7 @@ any_schedule steps typed = all_are_schedules entry_counts steps (counters_are_wo
 
 abbrev resends : List SystemStep
 resends =
-    Found 7 ∷ Take 0 0 ∷ Receive 7 ∷ Publish 7 (5 ∷ []) ∷ Transmit 7 ∷ Take 0 0 ∷ Cut 0 0 0 ∷ Reconnect 7 Resume ∷ Take 1 0 ∷ Receive 7 ∷ Transmit 7 ∷ Take 1 0 ∷ Pump 1 0
+    Found 7 ∷ Take 0 0 ∷ Receive 7 ∷ Publish 7 (5 ∷ []) ∷ Transmit 7 ∷ Take 0 0 ∷ Cut 0 0 0 ∷ Reconnect 7 Resume ∷ Take 1 0 ∷ Receive 7 ∷ Transmit 7 ∷ Take 1 0 ∷ Ticks 0 ∷ Pull 1
     ∷ Receive 7 ∷ Receive 7 ∷ Receive 7 ∷ Receive 7 ∷ Receive 7 ∷ Take 0 0 ∷ []
 
 the_log : (after_schedule entry_counts resends).session.log
@@ -85,12 +86,12 @@ one_done_each = refl
 
 -- frames are lost, and the view goes on from a new connection alone
 none_after_a_cut : schedule_faults
-    (Found 7 ∷ Take 0 0 ∷ Receive 7 ∷ Pump 0 0 ∷ Publish 7 (5 ∷ []) ∷ Transmit 7 ∷ Take 0 0 ∷ Cut 0 0 0 ∷ Pump 0 0 ∷ Take 0 0 ∷ Receive 7 ∷ Receive 7 ∷ Receive 7 ∷ Receive 7
-    ∷ Restart 7 Resume ∷ Take 1 0 ∷ Pump 1 0 ∷ Receive 7 ∷ Receive 7 ∷ Receive 7 ∷ Receive 7 ∷ Receive 7 ∷ []) ≡ []
+    (Found 7 ∷ Take 0 0 ∷ Receive 7 ∷ Ticks 0 ∷ Pull 0 ∷ Publish 7 (5 ∷ []) ∷ Transmit 7 ∷ Take 0 0 ∷ Cut 0 0 0 ∷ Ticks 0 ∷ Pull 0 ∷ Take 0 0 ∷ Receive 7 ∷ Receive 7 ∷ Receive 7 ∷ Receive 7
+    ∷ Restart 7 Resume ∷ Take 1 0 ∷ Ticks 0 ∷ Pull 1 ∷ Receive 7 ∷ Receive 7 ∷ Receive 7 ∷ Receive 7 ∷ Receive 7 ∷ []) ≡ []
 none_after_a_cut = refl
 
 -- what is sent once is read once
-each_entry_once : schedule_faults (Found 7 ∷ Take 0 0 ∷ Pump 0 0 ∷ Pump 0 0 ∷ Receive 7 ∷ Receive 7 ∷ Receive 7 ∷ Receive 7 ∷ Receive 7 ∷ []) ≡ []
+each_entry_once : schedule_faults (Found 7 ∷ Take 0 0 ∷ Ticks 0 ∷ Pull 0 ∷ Ticks 0 ∷ Pull 0 ∷ Receive 7 ∷ Receive 7 ∷ Receive 7 ∷ Receive 7 ∷ Receive 7 ∷ []) ≡ []
 each_entry_once = refl
 
 -- ---- rows that no promise pins
@@ -110,7 +111,7 @@ stale_ends = refl
 -- ---- a snapshot is offered, and a view begins from it
 
 abbrev offers : List SystemStep
-offers = Found 7 ∷ Take 0 0 ∷ Receive 7 ∷ Pump 0 0 ∷ Receive 7 ∷ Receive 7 ∷ Snap 7 ∷ Take 0 0 ∷ Receive 7 ∷ Found 8 ∷ Take 1 0 ∷ Receive 8 ∷ Pump 1 0 ∷ Receive 8 ∷ Receive 8 ∷ Pump 0 0 ∷ Receive 7 ∷ Receive 7 ∷ []
+offers = Found 7 ∷ Take 0 0 ∷ Receive 7 ∷ Ticks 0 ∷ Pull 0 ∷ Receive 7 ∷ Receive 7 ∷ Snap 7 ∷ Take 0 0 ∷ Receive 7 ∷ Found 8 ∷ Take 1 0 ∷ Receive 8 ∷ Ticks 0 ∷ Pull 1 ∷ Receive 8 ∷ Receive 8 ∷ Ticks 0 ∷ Pull 0 ∷ Receive 7 ∷ Receive 7 ∷ []
 
 it_is_kept : (after_schedule entry_counts offers).session.kept ≡ Some (record { time = 1; bytes = 1 ∷ 1 ∷ [] })
 it_is_kept = refl
@@ -155,13 +156,13 @@ its_base_is_bad = refl
 -- ---- one connection alone: the answers as they come, and then what is new
 
 the_line : (after_turns (record { 0 = [] }) (first_line first_session)
-    (Hears (Some (Join (record { 0 = [] }) 7 want.Whole)) 0 ∷ Hears (Some (Send 1 (5 ∷ []))) 0 ∷ Hears None 0 ∷ Pumps 0 ∷ Hears (Some (Send 1 (5 ∷ []))) 9 ∷ Pumps 0 ∷ [])).sent
+    (Hears (Some (Join (record { 0 = [] }) 7 want.Whole)) 0 ∷ Hears (Some (Send 1 (5 ∷ []))) 0 ∷ Hears None 0 ∷ Others (request.Tick 0) ∷ Pulls ∷ Hears (Some (Send 1 (5 ∷ []))) 9 ∷ Others (request.Tick 0) ∷ Pulls ∷ [])).sent
     ≡ Sync 1 0 0 None ∷ Done 1 2 2 ∷ unread_frame
     ∷ Recv (record { seq = 1; time = 1; view = 7; what = what.Join }) ∷ Recv (record { seq = 2; time = 2; view = 7; what = what.Event 1 (5 ∷ []) }) ∷ Tick 2
     ∷ Done 1 2 2 ∷ []
 the_line = refl
 
 -- a line that does not begin with a JOIN of its session is over at once
-another_session : (after_turns (record { 0 = [] }) (first_line first_session) (Hears (Some (Join (record { 0 = 1 ∷ [] }) 7 want.Whole)) 0 ∷ Hears (Some (Join (record { 0 = [] }) 7 want.Whole)) 0 ∷ Pumps 0 ∷ [])).sent
+another_session : (after_turns (record { 0 = [] }) (first_line first_session) (Hears (Some (Join (record { 0 = 1 ∷ [] }) 7 want.Whole)) 0 ∷ Hears (Some (Join (record { 0 = [] }) 7 want.Whole)) 0 ∷ Others (request.Tick 0) ∷ Pulls ∷ [])).sent
     ≡ Refused JOIN_TAG (code_number code.OtherSession) 0 0 ∷ []
 another_session = refl

@@ -1,4 +1,5 @@
 pub mod Lookups
+pub mod Turns
 pub mod Sessions
 pub mod Facts
 pub mod FactsGrow
@@ -26,9 +27,8 @@ pub mod TypedTurns
 pub mod LineSteps
 pub mod Promises
 pub mod StepRows
+pub mod Clients
 pub mod Example
 pub mod ClosedLines
 pub mod Traffics
-pub mod SpelledRows
-pub mod UnmadeRows
 pub mod WholeSchedules

@@ -40,14 +40,16 @@ use Rattle.join_sync.specs.Refusals.{early_code, early_frame, refused_frame, sec
 use Rattle.join_sync.specs.Requests.{act_on, first_request}
 use Rattle.join_sync.specs.Standing.{StandsAt as CursorStands}
 use Rattle.join_sync.proofs.Openings.{joined_stands}
-use Rattle.system_plain.specs.ConnectionLine.{AreSoundTurns, ConnectionLine, Hears, LineTurn, Others, Pumps, after_turn, after_turns, first_line, hears, hears_act, hears_first, pumps, pumps_batch, unread_frame}
-use Rattle.system_plain.specs.Steps.{answer_frames, ends_connection, found}
+use Rattle.system_plain.specs.ConnectionLine.{AreSoundTurns, ConnectionLine, Hears, LineTurn, Others, Pulls, after_turn, after_turns, first_line, hears, line_behind, pulls}
+use Rattle.system_plain.specs.Steps.{found}
+use Rattle.system_plain.specs.Turn.{Turn, answer_frames, batch_told, ends_connection, unread_frame}
 use Rattle.system_plain.proofs.AnswerFrames.{refused_form}
 use Rattle.system_plain.proofs.Facts.{FlowsFrom, Meets}
 use Rattle.system_plain.proofs.FactsGrow.{begins_grow, flows_grow}
 use Rattle.system_plain.proofs.Openings.{based_on, batch_goes_on, begins_for, begins_later, kept_or_none}
-use Rattle.system_plain.proofs.Sessions.{Grows, Grows-answer, Grows-entry, kept_is_based, session_goes_on, slice_get-grown}
+use Rattle.system_plain.proofs.Sessions.{Grows, Grows-answer, Grows-entry, kept_is_based, slice_get-grown}
 use Rattle.system_plain.proofs.Takes.{AreAnswers, GoOn, flows_put, replies_go_on}
+use Rattle.system_plain.proofs.Turns.{hears_act, hears_first}
 
 -- what is answered stays an answer when the log grows
 answers_grow : (log rest : List Entry) (view : ℕ) (frame : Option ClientFrame) (answer : ServerFrame) → AnswersFrame log view frame answer → AnswersFrame (log ++ rest) view frame answer
@@ -479,31 +481,36 @@ hears_stands id line (Some cursor) (Some frame) now old sound stands = acted_sta
 
 -- ---- what is new is sent
 
-batch_sends : (line : ConnectionLine) (cursor : Cursor) (new : PlainSession) (answered : Reply) → IsSoundSession new → LineSends new false cursor false line.given line.sent → ((place : Place) → Meets new place (Some cursor) → GoOn new place (next_frames cursor answered) (Some (next_cursor cursor answered)))
-    → LineStands (pumps_batch line cursor new answered)
-batch_sends line cursor new (reply.Batch entries tick) sound sends go =
+-- a line that was told what a Pull brought
+abbrev pulled : ConnectionLine → Cursor → Reply → ConnectionLine
+pulled line cursor answered = line_behind line line.given (let turn : Turn = record { session = line.session; told = batch_told cursor answered } in turn)
+
+nothing_sent : (line : ConnectionLine) (cursor : Cursor) → IsSoundSession line.session → LineSends line.session false cursor false line.given line.sent
+    → LineStands (record { session = line.session; cursor = Some cursor; over = false; given = line.given; sent = line.sent ++ [] })
+nothing_sent line cursor sound sends = record { sound = sound; stands = subst (LineSends line.session false cursor false line.given) (sym (append-nil line.sent)) sends }
+
+batch_sends : (line : ConnectionLine) (cursor : Cursor) (answered : Reply) → IsSoundSession line.session → LineSends line.session false cursor false line.given line.sent → ((place : Place) → Meets line.session place (Some cursor) → GoOn line.session place (next_frames cursor answered) (Some (next_cursor cursor answered)))
+    → LineStands (pulled line cursor answered)
+batch_sends line cursor (reply.Batch entries tick) sound sends go =
     let batch = reply.Batch entries tick in
     let none = no_answers cursor.last_tick entries tick in
     record {
       sound = sound;
-      stands = subst (λ (l : List (Option ClientFrame)). LineSends new false (next_cursor cursor batch) false l (line.sent ++ next_frames cursor batch)) (append-nil line.given)
-          (sends_more new cursor (next_cursor cursor batch) false line.given [] line.sent (next_frames cursor batch) refl refl go sends
+      stands = subst (λ (l : List (Option ClientFrame)). LineSends line.session false (next_cursor cursor batch) false l (line.sent ++ next_frames cursor batch)) (append-nil line.given)
+          (sends_more line.session cursor (next_cursor cursor batch) false line.given [] line.sent (next_frames cursor batch) refl refl go sends
           (rw (none, append-nil sends.more, append-nil (answers_of sends.rest)) sends.replies) (λ still. ap length none));
     }
-batch_sends line cursor new (reply.Joined seq time last from base) sound sends go = record { sound = sound; stands = sends }
-batch_sends line cursor new (reply.Stamped seq time) sound sends go = record { sound = sound; stands = sends }
-batch_sends line cursor new (reply.Again seq time) sound sends go = record { sound = sound; stands = sends }
-batch_sends line cursor new (reply.Ticked time) sound sends go = record { sound = sound; stands = sends }
-batch_sends line cursor new (reply.Left seq time) sound sends go = record { sound = sound; stands = sends }
-batch_sends line cursor new reply.Kept sound sends go = record { sound = sound; stands = sends }
-batch_sends line cursor new (reply.Refused why) sound sends go = record { sound = sound; stands = sends }
+batch_sends line cursor (reply.Joined seq time last from base) sound sends go = nothing_sent line cursor sound sends
+batch_sends line cursor (reply.Stamped seq time) sound sends go = nothing_sent line cursor sound sends
+batch_sends line cursor (reply.Again seq time) sound sends go = nothing_sent line cursor sound sends
+batch_sends line cursor (reply.Ticked time) sound sends go = nothing_sent line cursor sound sends
+batch_sends line cursor (reply.Left seq time) sound sends go = nothing_sent line cursor sound sends
+batch_sends line cursor reply.Kept sound sends go = nothing_sent line cursor sound sends
+batch_sends line cursor (reply.Refused why) sound sends go = nothing_sent line cursor sound sends
 
-pub pumps_stands : (line : ConnectionLine) (cursor : Option Cursor) (now : ℕ) → line.cursor ≡ cursor → line.over ≡ false → IsSoundSession line.session → Stands line.session cursor false line.given line.sent → LineStands (pumps line cursor now)
-pumps_stands line None now is going sound stands = record { sound = sound; stands = subst (λ (c : Option Cursor). Stands line.session c line.over line.given line.sent) (sym is) (subst (λ (o : Bool). Stands line.session None o line.given line.sent) (sym going) stands) }
-pumps_stands line (Some cursor) now is going sound stands =
-    let on = session_goes_on line.session (request.Tick now) sound tt in
-    let new = (answer line.session (request.Tick now)).session in
-    batch_sends line cursor new _ on.sound (sends_grow line.session new false cursor false line.given line.sent on.grows stands) (batch_goes_on new cursor most_pulled on.sound)
+pub pulls_stands : (line : ConnectionLine) (cursor : Option Cursor) → line.cursor ≡ cursor → line.over ≡ false → IsSoundSession line.session → Stands line.session cursor false line.given line.sent → LineStands (pulls line cursor)
+pulls_stands line None is going sound stands = record { sound = sound; stands = subst (λ (c : Option Cursor). Stands line.session c line.over line.given line.sent) (sym is) (subst (λ (o : Bool). Stands line.session None o line.given line.sent) (sym going) stands) }
+pulls_stands line (Some cursor) is going sound stands = batch_sends line cursor _ sound stands (batch_goes_on line.session cursor most_pulled sound)
 
 -- ---- turns
 
@@ -514,8 +521,8 @@ line_stands_if false a b sound held fell = fell refl sound
 turn_stands : (id : SessionId) (line : ConnectionLine) (next : LineTurn) → IsSoundSession (after_turn id line next).session → LineStands line → LineStands (after_turn id line next)
 turn_stands id line (Hears frame now) sound is =
     line_stands_if line.over _ _ sound is (λ going new. hears_stands id line line.cursor frame now is.sound new (subst (λ (o : Bool). Stands line.session line.cursor o line.given line.sent) going is.stands))
-turn_stands id line (Pumps now) sound is =
-    line_stands_if line.over _ _ sound is (λ going new. pumps_stands line line.cursor now refl going is.sound (subst (λ (o : Bool). Stands line.session line.cursor o line.given line.sent) going is.stands))
+turn_stands id line Pulls sound is =
+    line_stands_if line.over _ _ sound is (λ going new. pulls_stands line line.cursor refl going is.sound (subst (λ (o : Bool). Stands line.session line.cursor o line.given line.sent) going is.stands))
 turn_stands id line (Others asked) sound is =
     record { sound = sound; stands = line_stands_grow line.session (answer line.session asked).session line.cursor line.over line.given line.sent (Grows-answer line.session asked sound) is.stands }
 

@@ -1,4 +1,4 @@
--- The first frame of a connection, the end of one, and Pump keep the facts.
+-- The first frame of a connection, the end of one, and Tick and Pull keep the facts.
 use Rattle.std.proofs.lemmas.Slice.Eq.{bytes_eq-Decides}
 use Rattle.std.specs.Str.{bytes_eq}
 use Rattle.std.proofs.Common.{IfSome, Ok, Err, ◌^◌, ℕ, ◌+◌, ◌≡◌, ◌≤◌, ◌<◌, ◌⊎◌, inl, inr, Bool, true, false, cond, eqb, not, nat_lt, nat_le, ◌&&◌, ◌||◌, List, [], ◌∷◌, ◌++◌, Option, Some, None, is_none, length, take, drop, slice_get, refl, arith, sym, ap, ◌∙◌, subst}
@@ -35,17 +35,18 @@ use Rattle.join_sync.specs.Refusals.{early_frame, refused_frame}
 use Rattle.join_sync.specs.Requests.{first_request}
 use Rattle.join_sync.proofs.Openings.{joined_stands}
 use Rattle.join_sync.proofs.Pulls.{batch_stands, batch_streams}
-use Rattle.system_plain.specs.Steps.{answer_frames, join_on, leave_on, pump_batch, pump_on, pump_with, take_first, take_frame, take_next, take_on}
+use Rattle.system_plain.specs.Steps.{after_joined, after_leave, after_next, pull_on, take_on, told_connection, with_both}
 use Rattle.system_plain.specs.System.{Connection, System, over_if, put_down, with_cursor, with_up}
+use Rattle.system_plain.specs.Turn.{answer_frames, batch_told, frame_told}
 use Rattle.system_plain.proofs.AnswerFrames.{of_refusal}
 use Rattle.system_plain.proofs.Changes.{connection_changes}
 use Rattle.system_plain.proofs.Facts.{AnswersAwaited, AsksFor, AsksForItsView, CursorMeant, EventsStand, JoinsMeant, Meets, NewestStands, SnapsHonest, TicksWithin, WaitsForSync, WorldsStand}
 use Rattle.system_plain.proofs.FactsGrow.{base_grows, count_stays, joined_grows, lives_grow, snaps_grow}
 use Rattle.system_plain.proofs.Lookups.{client_view}
 use Rattle.system_plain.proofs.Numbers.{counted}
-use Rattle.system_plain.proofs.Quiet.{worlds_if}
 use Rattle.system_plain.proofs.Sessions.{Grows, Grows-same, IsBasedBy, kept_is_based, session_goes_on}
-use Rattle.system_plain.proofs.Takes.{GoOn, act_keeps_worlds, kept_honest, over_stays, sends_on, ticks_append}
+use Rattle.system_plain.proofs.Takes.{GoOn, act_keeps_worlds, kept_honest, sends_on, ticks_append}
+use Rattle.system_plain.proofs.Turns.{both_if, rests, take_first, take_frame}
 
 -- what a Join that is answered Joined says
 pub record JoinsWith (s : PlainSession) (view : ℕ) (want : Want) (o : SessionOutcome) : Type 0 where
@@ -168,7 +169,7 @@ kept_or_none horizon base kept based within = elim based [ inl same ↦ rw same 
 honest_or_none : {W O : Type 0} (m : Worlds W O) (log : List Entry) (base kept : Option Base) → (base ≡ kept) ⊎ (base ≡ None) → IsHonestBase m log kept → IsHonestBase m log base
 honest_or_none m log base kept based honest = elim based [ inl same ↦ rw same honest | inr none ↦ rw none tt ]
 
-open_keeps_worlds : {W O : Type 0} (m : Worlds W O) (s : System W O) (number : ℕ) (c : Connection) (session : SessionId) (view : ℕ) (want : Want) (rest : List ClientFrame) (now : ℕ) → WorldsStand m s → EventsStand s → slice_get s.connections number ≡ Some c → c.over ≡ false → c.cursor ≡ None → c.up ≡ up.Join session view want ∷ rest → view < 2 ^ 32 → SnapsHonest m s.session rest → WorldsStand m (join_on s number (with_up c rest) (request.Join view now want))
+open_keeps_worlds : {W O : Type 0} (m : Worlds W O) (s : System W O) (number : ℕ) (c : Connection) (session : SessionId) (view : ℕ) (want : Want) (rest : List ClientFrame) (now : ℕ) → WorldsStand m s → EventsStand s → slice_get s.connections number ≡ Some c → c.over ≡ false → c.cursor ≡ None → c.up ≡ up.Join session view want ∷ rest → view < 2 ^ 32 → SnapsHonest m s.session rest → WorldsStand m (take_first s number (with_up c rest) (up.Join session view want) (Ok (request.Join view now want)))
 open_keeps_worlds m s number c session view want rest now fine counted at going fresh ups bound snaps =
     let asked = request.Join view now want in
     let on = session_goes_on s.session asked fine.sound bound in
@@ -206,7 +207,7 @@ open_keeps_worlds m s number c session view want rest now fine counted at going 
 early_keeps_worlds : {W O : Type 0} (m : Worlds W O) (s : System W O) (number : ℕ) (c : Connection) (frame : ClientFrame) (rest : List ClientFrame) (early : Early) → WorldsStand m s → slice_get s.connections number ≡ Some c → c.over ≡ false → c.cursor ≡ None → c.up ≡ frame ∷ rest → SnapsHonest m s.session rest
     → ((r : PlainReplica W O) → AsksFor m r c.closed (frame ∷ rest) → ⊥) → WorldsStand m (take_first s number (with_up c rest) frame (Err early))
 early_keeps_worlds m s number c frame rest early fine at going fresh ups snaps no_join =
-    connection_changes m s s.session number c (over_if true (put_down (with_up c rest) (early_frame early frame ∷ []))) fine at (Grows-same s.session) fine.sound fine.kept snaps
+    connection_changes m s s.session number c (told_connection (with_up c rest) (frame_told None (early_frame early frame))) fine at (Grows-same s.session) fine.sound fine.kept snaps
     (λ v client is_client same joined. absurd (no_join client.replica (rw ups at (joined.opens fresh going).asks)))
 
 join_if : {W O : Type 0} (m : Worlds W O) (s : System W O) (number : ℕ) (c : Connection) (session : SessionId) (view : ℕ) (want : Want) (rest : List ClientFrame) (now : ℕ) (own : Bool) → bytes_eq session.0 m.session ≡ own → WorldsStand m s → EventsStand s → slice_get s.connections number ≡ Some c → c.over ≡ false → c.cursor ≡ None
@@ -255,29 +256,28 @@ joined_over m s r c joined = record {
   begun = joined.begun;
 }
 
-leave_keeps_worlds : {W O : Type 0} (m : Worlds W O) (s : System W O) (number : ℕ) (c : Connection) (cursor : Option Cursor) (now : ℕ) → WorldsStand m s → EventsStand s → slice_get s.connections number ≡ Some c → c.cursor ≡ cursor → WorldsStand m (leave_on s number c cursor now)
-leave_keeps_worlds m s number c None now fine counted at is = fine
+leave_keeps_worlds : {W O : Type 0} (m : Worlds W O) (s : System W O) (number : ℕ) (c : Connection) (cursor : Option Cursor) (now : ℕ) → WorldsStand m s → EventsStand s → slice_get s.connections number ≡ Some c → c.cursor ≡ cursor
+    → WorldsStand m (with_both s number (after_leave s.session c cursor now))
+leave_keeps_worlds m s number c None now fine counted at is = rests (WorldsStand m) s number c at fine
 leave_keeps_worlds m s number c (Some cursor) now fine counted at is =
     let asked = request.Leave cursor.view cursor.joined now in
     let on = session_goes_on s.session asked fine.sound (cursor_bound c cursor (counted.named number c at) is) in
     let new = (answer s.session asked).session in
-    worlds_if m c.closed _ s
-    (connection_changes m s new number c (over_if true c) fine at on.grows on.sound (kept_honest m s.session new asked fine.sound fine.kept tt on) (snaps_grow m s.session new c.up on.grows (fine.snaps number c at))
+    both_if (WorldsStand m) s number c.closed (new, over_if true c) (s.session, c)
+    (λ closed. connection_changes m s new number c (over_if true c) fine at on.grows on.sound (kept_honest m s.session new asked fine.sound fine.kept tt on) (snaps_grow m s.session new c.up on.grows (fine.snaps number c at))
     (λ view client is_client same joined. joined_over m new client.replica c (joined_grows m s.session new client.replica c on.grows (fine.lives view client is_client) joined)))
-    fine
+    (λ stays. rests (WorldsStand m) s number c at fine)
 
-next_keeps_worlds : {W O : Type 0} (m : Worlds W O) (s : System W O) (number : ℕ) (c : Connection) (ups : List ClientFrame) (now : ℕ) → WorldsStand m s → EventsStand s → slice_get s.connections number ≡ Some c → c.over ≡ false → c.up ≡ ups → WorldsStand m (take_next m s number c ups now)
+next_keeps_worlds : {W O : Type 0} (m : Worlds W O) (s : System W O) (number : ℕ) (c : Connection) (ups : List ClientFrame) (now : ℕ) → WorldsStand m s → EventsStand s → slice_get s.connections number ≡ Some c → c.over ≡ false → c.up ≡ ups
+    → WorldsStand m (with_both s number (after_next (record { 0 = m.session }) s.session c ups now))
 next_keeps_worlds m s number c [] now fine counted at going ups = leave_keeps_worlds m s number c c.cursor now fine counted at refl
 next_keeps_worlds m s number c (frame ∷ rest) now fine counted at going ups =
     frame_keeps_worlds m s number c c.cursor frame rest now fine counted at going refl ups (subst (SnapsHonest m s.session) ups (fine.snaps number c at))
 
-take_if : {W O : Type 0} (m : Worlds W O) (over : Bool) (a b : System W O) → WorldsStand m a → (over ≡ false → WorldsStand m b) → WorldsStand m (cond over a b)
-take_if m true a b held fell = held
-take_if m false a b held fell = fell refl
-
 pub take_keeps_worlds : {W O : Type 0} (m : Worlds W O) (s : System W O) (number : ℕ) (found : Option Connection) (now : ℕ) → WorldsStand m s → EventsStand s → slice_get s.connections number ≡ found → WorldsStand m (take_on m s number found now)
 take_keeps_worlds m s number None now fine counted at = fine
-take_keeps_worlds m s number (Some c) now fine counted at = take_if m c.over s _ fine (λ going. next_keeps_worlds m s number c c.up now fine counted at going refl)
+take_keeps_worlds m s number (Some c) now fine counted at =
+    both_if (WorldsStand m) s number c.over (s.session, c) (after_next (record { 0 = m.session }) s.session c c.up now) (λ over. rests (WorldsStand m) s number c at fine) (λ going. next_keeps_worlds m s number c c.up now fine counted at going refl)
 
 recvs_ticks : (horizon : ℕ) (entries : List Entry) → TicksWithin horizon (entry_frames entries)
 recvs_ticks horizon [] = tt
@@ -316,31 +316,22 @@ session_changes m s new fine grows sound kept = record {
   joined = λ view client c is at. joined_grows m s.session new client.replica c grows (fine.lives view client is) (fine.joined view client c is at);
 }
 
--- its frames are put down
-pump_batch_keeps_worlds : {W O : Type 0} (m : Worlds W O) (s : System W O) (number : ℕ) (c : Connection) (cursor : Cursor) (new : PlainSession) (answered : Reply) → WorldsStand m s → slice_get s.connections number ≡ Some c → c.over ≡ false → c.cursor ≡ Some cursor → Grows s.session new → IsSoundSession new → IsHonestBase m new.log new.kept
-    → ((place : Place) → Meets new place (Some cursor) → GoOn new place (next_frames cursor answered) (Some (next_cursor cursor answered))) → WorldsStand m (pump_batch s number c cursor new answered)
-pump_batch_keeps_worlds m s number c cursor new (reply.Batch entries tick) fine at going is grows sound kept go =
-    let batch = reply.Batch entries tick in
-    connection_changes m s new number c (put_down (with_cursor c (Some (next_cursor cursor batch))) (next_frames cursor batch)) fine at grows sound kept (snaps_grow m s.session new c.up grows (fine.snaps number c at))
-    (λ view client is_client same joined.
-    subst (λ (x : Connection). NewestStands m new client.replica x) (over_stays (put_down (with_cursor c (Some (next_cursor cursor batch))) (next_frames cursor batch)))
-    (sends_on m new client.replica c cursor (next_cursor cursor batch) c.up (next_frames cursor batch) false going is go (joined_grows m s.session new client.replica c grows (fine.lives view client is_client) joined)))
-pump_batch_keeps_worlds m s number c cursor new (reply.Joined seq time last from base) fine at going is grows sound kept go = session_changes m s new fine grows sound kept
-pump_batch_keeps_worlds m s number c cursor new (reply.Stamped seq time) fine at going is grows sound kept go = session_changes m s new fine grows sound kept
-pump_batch_keeps_worlds m s number c cursor new (reply.Again seq time) fine at going is grows sound kept go = session_changes m s new fine grows sound kept
-pump_batch_keeps_worlds m s number c cursor new (reply.Ticked time) fine at going is grows sound kept go = session_changes m s new fine grows sound kept
-pump_batch_keeps_worlds m s number c cursor new (reply.Left seq time) fine at going is grows sound kept go = session_changes m s new fine grows sound kept
-pump_batch_keeps_worlds m s number c cursor new reply.Kept fine at going is grows sound kept go = session_changes m s new fine grows sound kept
-pump_batch_keeps_worlds m s number c cursor new (reply.Refused why) fine at going is grows sound kept go = session_changes m s new fine grows sound kept
-
-pump_with_keeps_worlds : {W O : Type 0} (m : Worlds W O) (s : System W O) (number : ℕ) (c : Connection) (cursor : Option Cursor) (now : ℕ) → WorldsStand m s → slice_get s.connections number ≡ Some c → c.over ≡ false → c.cursor ≡ cursor → WorldsStand m (pump_with s number c cursor now)
-pump_with_keeps_worlds m s number c None now fine at going is = fine
-pump_with_keeps_worlds m s number c (Some cursor) now fine at going is =
+pub tick_keeps_worlds : {W O : Type 0} (m : Worlds W O) (s : System W O) (now : ℕ) → WorldsStand m s → WorldsStand m (record s { session = (answer s.session (request.Tick now)).session })
+tick_keeps_worlds m s now fine =
     let asked = request.Tick now in
     let on = session_goes_on s.session asked fine.sound tt in
     let new = (answer s.session asked).session in
-    pump_batch_keeps_worlds m s number c cursor new _ fine at going is on.grows on.sound (kept_honest m s.session new asked fine.sound fine.kept tt on) (batch_goes_on new cursor most_pulled on.sound)
+    session_changes m s new fine on.grows on.sound (kept_honest m s.session new asked fine.sound fine.kept tt on)
 
-pub pump_keeps_worlds : {W O : Type 0} (m : Worlds W O) (s : System W O) (number : ℕ) (found : Option Connection) (now : ℕ) → WorldsStand m s → slice_get s.connections number ≡ found → WorldsStand m (pump_on s number found now)
-pump_keeps_worlds m s number None now fine at = fine
-pump_keeps_worlds m s number (Some c) now fine at = take_if m c.over s _ fine (λ going. pump_with_keeps_worlds m s number c c.cursor now fine at going refl)
+-- its frames are put down
+joined_keeps_worlds : {W O : Type 0} (m : Worlds W O) (s : System W O) (number : ℕ) (c : Connection) (cursor : Option Cursor) → WorldsStand m s → slice_get s.connections number ≡ Some c → c.over ≡ false → c.cursor ≡ cursor → WorldsStand m (with_both s number (after_joined s.session c cursor))
+joined_keeps_worlds m s number c None fine at going is = rests (WorldsStand m) s number c at fine
+joined_keeps_worlds m s number c (Some cursor) fine at going is =
+    let answered = (pull s.session cursor.after most_pulled).reply in
+    connection_changes m s s.session number c (told_connection c (batch_told cursor answered)) fine at (Grows-same s.session) fine.sound fine.kept (fine.snaps number c at)
+    (λ view client is_client same joined. sends_on m s.session client.replica c cursor (next_cursor cursor answered) c.up (next_frames cursor answered) false going is (batch_goes_on s.session cursor most_pulled fine.sound) joined)
+
+pub pull_keeps_worlds : {W O : Type 0} (m : Worlds W O) (s : System W O) (number : ℕ) (found : Option Connection) → WorldsStand m s → slice_get s.connections number ≡ found → WorldsStand m (pull_on s number found)
+pull_keeps_worlds m s number None fine at = fine
+pull_keeps_worlds m s number (Some c) fine at =
+    both_if (WorldsStand m) s number c.over (s.session, c) (after_joined s.session c c.cursor) (λ over. rests (WorldsStand m) s number c at fine) (λ going. joined_keeps_worlds m s number c c.cursor fine at going refl)

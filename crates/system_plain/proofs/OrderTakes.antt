@@ -1,4 +1,4 @@
--- Take and Pump keep the order of SENDs and DONEs.
+-- Take, Tick and Pull keep the order of SENDs and DONEs.
 use Rattle.std.specs.Str.{bytes_eq}
 use Rattle.std.proofs.Common.{Ok, Err, ℕ, ◌+◌, ◌-◌, ◌≡◌, ◌≤◌, ◌<◌, inl, inr, Bool, true, false, cond, eqb, not, nat_lt, nat_le, ◌&&◌, List, [], ◌∷◌, ◌++◌, Option, Some, None, is_none, length, length-append, map, set, slice_get, refl, arith, sym, ap, ◌∙◌, subst}
 use Rattle.tea_base.specs.declared.entry.Entry.{Entry}
@@ -21,6 +21,7 @@ use Rattle.reflector_core.specs.Answer.{SessionOutcome, answer, is_ahead, is_clo
 use Rattle.reflector_core.specs.PlainSession.{PlainSession}
 use Rattle.replica_plain.specs.PlainReplica.{PlainReplica}
 use Rattle.replica_plain.specs.Worlds.{Worlds}
+use Rattle.join_sync.specs.declared.act.Act.TheVariants.{Answer}
 use Rattle.join_sync.specs.declared.cursor.Cursor.{Cursor}
 use Rattle.join_sync.specs.declared.early.Early.{Early}
 use Rattle.join_sync.specs.declared.early.Early.TheVariants.{NotJoined, OtherSession}
@@ -29,17 +30,19 @@ use Rattle.join_sync.specs.Batches.{newer_tick, next_cursor, next_frames, tick_f
 use Rattle.join_sync.specs.Refusals.{early_frame, refused_frame, second_join_frame}
 use Rattle.join_sync.specs.Requests.{act_on, first_request}
 use Rattle.system_plain.specs.Schedule.{ViewPayloads}
-use Rattle.system_plain.specs.Steps.{answer_frames, ends_connection, leave_on, pump_batch, pump_on, pump_with, take_act, take_first, take_frame, take_next, take_on}
-use Rattle.system_plain.specs.System.{Client, Connection, System, over_if, put_down, view_client, with_connection, with_cursor, with_up}
+use Rattle.system_plain.specs.Steps.{after_joined, after_leave, after_next, pull_on, take_on, with_both}
+use Rattle.system_plain.specs.System.{Client, Connection, System, over_if, put_down, view_client, with_cursor, with_up}
+use Rattle.system_plain.specs.Turn.{answer_frames, ends_connection, pull_request}
 use Rattle.system_plain.proofs.AnswerFrames.{of_leave_answer, of_refusal, of_snap_answer}
 use Rattle.system_plain.proofs.Events.{SameEvents, exit_entry_same, join_entry_same, leave_same, offer_same}
 use Rattle.system_plain.proofs.Facts.{WorldsStand}
 use Rattle.system_plain.proofs.Numbers.{DonesWithin, NumbersStand, SendsMeant}
 use Rattle.system_plain.proofs.Order.{IsStale, NoDones, NoSends, OrderStands, RunsInOrder, Sending, SessionMoves, join_moves, leave_moves, moves_if, moves_same, same_numbers, send_moves}
-use Rattle.system_plain.proofs.OrderQuiet.{order_if, waiting_runs}
+use Rattle.system_plain.proofs.OrderQuiet.{waiting_runs}
 use Rattle.system_plain.proofs.OrderTake.{Answered, dones_if, none_append, none_rises, order_changes, runs_answered, send_in_order, sending_put}
 use Rattle.system_plain.proofs.Pace.{DonesRise, SendsAbove, SendsRise, dones_end, sends_end}
 use Rattle.system_plain.proofs.Takes.{over_stays}
+use Rattle.system_plain.proofs.Turns.{NextSame, as_told, both_if, next_same, rests, take_act, take_first, take_frame}
 
 -- frames with no DONE
 refusal_none : (asked : ℕ) (why : Refusal) → NoDones (refused_frame asked why ∷ [])
@@ -113,9 +116,10 @@ plain_changes m published s new number c before rest frames over fine numbered o
     order_changes m published s new number c (over_if over (put_down (with_up c rest) frames)) fine numbered ordered at moves (λ cursor is. inl (cursor, is, refl))
     (λ view client is_client newest runs. plain_runs s.session new client.replica c before rest frames over going ups leaves none same moves (λ b is. ordered.within number c b at is) runs)
 
-at_once_order : {W O : Type 0} (m : Worlds W O) (published : ViewPayloads) (s : System W O) (number : ℕ) (c : Connection) (before rest : List ClientFrame) (frame : ServerFrame) → WorldsStand m s → NumbersStand published s → OrderStands published s → slice_get s.connections number ≡ Some c → c.over ≡ false → c.up ≡ before → DropsNoSend before rest → NoDones (frame ∷ []) → OrderStands published (with_connection s number (put_down (with_up c rest) (frame ∷ [])))
-at_once_order m published s number c before rest frame fine numbered ordered at going ups leaves none =
-    subst (λ (x : Connection). OrderStands published (with_connection s number x)) (over_stays (put_down (with_up c rest) (frame ∷ [])))
+at_once_order : {W O : Type 0} (m : Worlds W O) (published : ViewPayloads) (s : System W O) (number : ℕ) (c : Connection) (cursor : Cursor) (before rest : List ClientFrame) (frame : ServerFrame) → WorldsStand m s → NumbersStand published s → OrderStands published s → slice_get s.connections number ≡ Some c → c.over ≡ false → c.cursor ≡ Some cursor → c.up ≡ before → DropsNoSend before rest → NoDones (frame ∷ [])
+    → OrderStands published (take_act s number (with_up c rest) cursor (Answer frame))
+at_once_order m published s number c cursor before rest frame fine numbered ordered at going is ups leaves none =
+    as_told (OrderStands published) s number s.session (with_up c rest) (Some cursor) (frame ∷ []) false is
     (plain_changes m published s s.session number c before rest (frame ∷ []) false fine numbered ordered at going ups leaves none (λ v. refl) (moves_same s.session c.cursor))
 
 offer_moves : (s : PlainSession) (actor : Option Cursor) (view joined time : ℕ) (bytes : List ℕ) → SessionMoves s (offer s view joined time bytes).session actor
@@ -138,7 +142,7 @@ dones_end_within k bound (Refused about code kept more ∷ rest) le rise within 
 dones_end_within k bound (Alive ∷ rest) le rise within = dones_end_within k bound rest le rise within
 
 send_keeps_order : {W O : Type 0} (m : Worlds W O) (published : ViewPayloads) (s : System W O) (number : ℕ) (c : Connection) (cursor : Cursor) (k : ℕ) (payload : List ℕ) (rest : List ClientFrame) (now : ℕ) → WorldsStand m s → NumbersStand published s → OrderStands published s → slice_get s.connections number ≡ Some c → c.over ≡ false → c.cursor ≡ Some cursor → cursor.view ≡ c.view → c.up ≡ up.Send k payload ∷ rest
-    → OrderStands published (take_act s number (with_up c rest) (act_on cursor (up.Send k payload) now))
+    → OrderStands published (take_act s number (with_up c rest) cursor (act_on cursor (up.Send k payload) now))
 send_keeps_order m published s number c cursor k payload rest now fine numbered ordered at going is named ups =
     let asked = request.Send cursor.view cursor.joined k payload now in
     let o = send_event s.session cursor.view cursor.joined k payload now in
@@ -146,7 +150,8 @@ send_keeps_order m published s number c cursor k payload rest now fine numbered 
     let link = numbered.links number c at in
     let meant : (0 < k) × (slice_get (published cursor.view) (k - 1) ≡ Some payload) = rw named (subst (SendsMeant (published c.view)) ups link.sends).0 in
     let short = ordered.short cursor.view (k - 1) payload meant.1 in
-    order_changes m published s o.session number c (over_if (ends_connection o.reply) (put_down (with_up c rest) frames)) fine numbered ordered at
+    as_told (OrderStands published) s number o.session (with_up c rest) (Some cursor) frames (ends_connection o.reply) is
+    (order_changes m published s o.session number c (over_if (ends_connection o.reply) (put_down (with_up c rest) frames)) fine numbered ordered at
     (subst (SessionMoves s.session o.session) (sym is) (send_moves s.session cursor k payload now)) (λ b is_b. inl (b, is_b, refl))
     (λ view client is_client newest runs.
     let r = client.replica in
@@ -163,27 +168,29 @@ send_keeps_order m published s number c cursor k payload rest now fine numbered 
     subst (λ (x : Option Cursor). Answered o.session.log r.view first r.given rest x frames) (sym is)
     (subst (λ (v : ℕ). Answered o.session.log v first r.given rest (Some cursor) frames) own
     (send_in_order published s.session cursor first r.given k payload rest now numbered.prefixes short meant (rw own bound) (ordered.within number c cursor at is)
-    (subst (λ (v : ℕ). Sending s.session.log v first r.given (up.Send k payload ∷ rest) (Some cursor)) (sym own) (subst (λ (x : Option Cursor). Sending s.session.log r.view first r.given (up.Send k payload ∷ rest) x) is sending))))))
+    (subst (λ (v : ℕ). Sending s.session.log v first r.given (up.Send k payload ∷ rest) (Some cursor)) (sym own) (subst (λ (x : Option Cursor). Sending s.session.log r.view first r.given (up.Send k payload ∷ rest) x) is sending)))))))
 
 -- a later frame
 act_keeps_order : {W O : Type 0} (m : Worlds W O) (published : ViewPayloads) (s : System W O) (number : ℕ) (c : Connection) (cursor : Cursor) (frame : ClientFrame) (rest : List ClientFrame) (now : ℕ) → WorldsStand m s → NumbersStand published s → OrderStands published s → slice_get s.connections number ≡ Some c → c.over ≡ false → c.cursor ≡ Some cursor → cursor.view ≡ c.view → c.up ≡ frame ∷ rest
-    → OrderStands published (take_act s number (with_up c rest) (act_on cursor frame now))
+    → OrderStands published (take_act s number (with_up c rest) cursor (act_on cursor frame now))
 act_keeps_order m published s number c cursor (up.Send k payload) rest now fine numbered ordered at going is named ups = send_keeps_order m published s number c cursor k payload rest now fine numbered ordered at going is named ups
 act_keeps_order m published s number c cursor (up.Snap time bytes) rest now fine numbered ordered at going is named ups =
     let asked = request.Offer cursor.view cursor.joined time bytes in
     let o = answer s.session asked in
-    plain_changes m published s o.session number c (up.Snap time bytes ∷ rest) rest (answer_frames (answer_frame asked o.reply)) (ends_connection o.reply) fine numbered ordered at going ups (record { rise = λ k h. h; end = λ k. refl; above = λ k h. h; none = λ h. h })
-    (snap_none time o.reply) (offer_same s.session cursor.view cursor.joined time bytes) (offer_moves s.session c.cursor cursor.view cursor.joined time bytes)
+    as_told (OrderStands published) s number o.session (with_up c rest) (Some cursor) (answer_frames (answer_frame asked o.reply)) (ends_connection o.reply) is
+    (plain_changes m published s o.session number c (up.Snap time bytes ∷ rest) rest (answer_frames (answer_frame asked o.reply)) (ends_connection o.reply) fine numbered ordered at going ups (record { rise = λ k h. h; end = λ k. refl; above = λ k h. h; none = λ h. h })
+    (snap_none time o.reply) (offer_same s.session cursor.view cursor.joined time bytes) (offer_moves s.session c.cursor cursor.view cursor.joined time bytes))
 act_keeps_order m published s number c cursor up.Leave rest now fine numbered ordered at going is named ups =
     let asked = request.Leave cursor.view cursor.joined now in
     let o = answer s.session asked in
-    plain_changes m published s o.session number c (up.Leave ∷ rest) rest (answer_frames (answer_frame asked o.reply)) (ends_connection o.reply) fine numbered ordered at going ups (record { rise = λ k h. h; end = λ k. refl; above = λ k h. h; none = λ h. h })
+    as_told (OrderStands published) s number o.session (with_up c rest) (Some cursor) (answer_frames (answer_frame asked o.reply)) (ends_connection o.reply) is
+    (plain_changes m published s o.session number c (up.Leave ∷ rest) rest (answer_frames (answer_frame asked o.reply)) (ends_connection o.reply) fine numbered ordered at going ups (record { rise = λ k h. h; end = λ k. refl; above = λ k h. h; none = λ h. h })
     (leave_none o.reply) (leave_same s.session cursor.view cursor.joined now)
-    (leave_moves s.session c.cursor cursor.view cursor.joined now (λ time. exit_entry_same s.session time cursor.view))
+    (leave_moves s.session c.cursor cursor.view cursor.joined now (λ time. exit_entry_same s.session time cursor.view)))
 act_keeps_order m published s number c cursor (up.Join session view want) rest now fine numbered ordered at going is named ups =
-    at_once_order m published s number c (up.Join session view want ∷ rest) rest second_join_frame fine numbered ordered at going ups (record { rise = λ k h. h; end = λ k. refl; above = λ k h. h; none = λ h. h }) tt
+    at_once_order m published s number c cursor (up.Join session view want ∷ rest) rest second_join_frame fine numbered ordered at going is ups (record { rise = λ k h. h; end = λ k. refl; above = λ k h. h; none = λ h. h }) tt
 act_keeps_order m published s number c cursor up.Alive rest now fine numbered ordered at going is named ups =
-    at_once_order m published s number c (up.Alive ∷ rest) rest Alive fine numbered ordered at going ups (record { rise = λ k h. h; end = λ k. refl; above = λ k h. h; none = λ h. h }) tt
+    at_once_order m published s number c cursor (up.Alive ∷ rest) rest Alive fine numbered ordered at going is ups (record { rise = λ k h. h; end = λ k. refl; above = λ k h. h; none = λ h. h }) tt
 
 -- the first frame: the replica waits for its Sync
 unjoined : {W O : Type 0} (m : Worlds W O) (s : System W O) (view : ℕ) (client : Client W O) (number : ℕ) (c : Connection) → WorldsStand m s → view_client s.clients view ≡ Some client → client.newest ≡ number → slice_get s.connections number ≡ Some c → c.cursor ≡ None → c.over ≡ false → client.replica.synced ≡ false
@@ -193,10 +200,11 @@ early_keeps_order : {W O : Type 0} (m : Worlds W O) (published : ViewPayloads) (
     → OrderStands published (take_first s number (with_up c rest) frame (Err early))
 early_keeps_order m published s number c frame rest early fine numbered ordered at going is ups none =
     let changed = over_if true (put_down (with_up c rest) (early_frame early frame ∷ [])) in
-    order_changes m published s s.session number c changed fine numbered ordered at (moves_same s.session c.cursor) (λ b is_b. inl (b, is_b, refl))
+    as_told (OrderStands published) s number s.session (with_up c rest) None (early_frame early frame ∷ []) true is
+    (order_changes m published s s.session number c changed fine numbered ordered at (moves_same s.session c.cursor) (λ b is_b. inl (b, is_b, refl))
     (λ view client is_client newest runs.
     let waiting = unjoined m s view client number c fine is_client newest at is going in
-    waiting_runs s.session.log client.replica changed waiting (none (subst NoSends ups (runs.none_up waiting))) (none_put c.closed c.down (early_frame early frame ∷ []) (runs.none_down waiting) tt) runs.given)
+    waiting_runs s.session.log client.replica changed waiting (none (subst NoSends ups (runs.none_up waiting))) (none_put c.closed c.down (early_frame early frame ∷ []) (runs.none_down waiting) tt) runs.given))
 
 -- a cursor is opened by a Join that is appended
 abbrev OpensNext : PlainSession → ℕ → SessionOutcome → Type 0
@@ -238,24 +246,28 @@ frame_keeps_order : {W O : Type 0} (m : Worlds W O) (published : ViewPayloads) (
 frame_keeps_order m published s number c None frame rest now fine numbered ordered at going is ups = first_keeps_order m published s number c frame rest now fine numbered ordered at going is ups
 frame_keeps_order m published s number c (Some cursor) frame rest now fine numbered ordered at going is ups = act_keeps_order m published s number c cursor frame rest now fine numbered ordered at going is (rw is at (numbered.links number c at).cursor) ups
 
-leave_keeps_order : {W O : Type 0} (m : Worlds W O) (published : ViewPayloads) (s : System W O) (number : ℕ) (c : Connection) (cursor : Option Cursor) (now : ℕ) → WorldsStand m s → NumbersStand published s → OrderStands published s → slice_get s.connections number ≡ Some c → OrderStands published (leave_on s number c cursor now)
-leave_keeps_order m published s number c None now fine numbered ordered at = ordered
+leave_keeps_order : {W O : Type 0} (m : Worlds W O) (published : ViewPayloads) (s : System W O) (number : ℕ) (c : Connection) (cursor : Option Cursor) (now : ℕ) → WorldsStand m s → NumbersStand published s → OrderStands published s → slice_get s.connections number ≡ Some c
+    → OrderStands published (with_both s number (after_leave s.session c cursor now))
+leave_keeps_order m published s number c None now fine numbered ordered at = rests (OrderStands published) s number c at ordered
 leave_keeps_order m published s number c (Some cursor) now fine numbered ordered at =
     let new = (answer s.session (request.Leave cursor.view cursor.joined now)).session in
-    order_if published c.closed _ s
+    both_if (OrderStands published) s number c.closed (new, over_if true c) (s.session, c)
     (λ closed. order_changes m published s new number c (over_if true c) fine numbered ordered at (leave_moves s.session c.cursor cursor.view cursor.joined now (λ time. exit_entry_same s.session time cursor.view)) (λ b is_b. inl (b, is_b, refl))
     (λ view client is_client newest runs. record { dones = runs.dones; sends = λ synced ready going. absurd cc; none_up = runs.none_up; none_down = runs.none_down; given = runs.given }))
-    (λ h. ordered)
+    (λ stays. rests (OrderStands published) s number c at ordered)
 
-next_keeps_order : {W O : Type 0} (m : Worlds W O) (published : ViewPayloads) (s : System W O) (number : ℕ) (c : Connection) (ups : List ClientFrame) (now : ℕ) → WorldsStand m s → NumbersStand published s → OrderStands published s → slice_get s.connections number ≡ Some c → c.over ≡ false → c.up ≡ ups → OrderStands published (take_next m s number c ups now)
+next_keeps_order : {W O : Type 0} (m : Worlds W O) (published : ViewPayloads) (s : System W O) (number : ℕ) (c : Connection) (ups : List ClientFrame) (now : ℕ) → WorldsStand m s → NumbersStand published s → OrderStands published s → slice_get s.connections number ≡ Some c → c.over ≡ false → c.up ≡ ups
+    → OrderStands published (with_both s number (after_next (record { 0 = m.session }) s.session c ups now))
 next_keeps_order m published s number c [] now fine numbered ordered at going is = leave_keeps_order m published s number c c.cursor now fine numbered ordered at
 next_keeps_order m published s number c (frame ∷ rest) now fine numbered ordered at going is = frame_keeps_order m published s number c c.cursor frame rest now fine numbered ordered at going refl is
 
 pub take_keeps_order : {W O : Type 0} (m : Worlds W O) (published : ViewPayloads) (s : System W O) (number : ℕ) (found : Option Connection) (now : ℕ) → WorldsStand m s → NumbersStand published s → OrderStands published s → slice_get s.connections number ≡ found → OrderStands published (take_on m s number found now)
 take_keeps_order m published s number None now fine numbered ordered at = ordered
-take_keeps_order m published s number (Some c) now fine numbered ordered at = order_if published c.over s _ (λ h. ordered) (λ going. next_keeps_order m published s number c c.up now fine numbered ordered at going refl)
+take_keeps_order m published s number (Some c) now fine numbered ordered at =
+    both_if (OrderStands published) s number c.over (s.session, c) (after_next (record { 0 = m.session }) s.session c c.up now)
+    (λ over. rests (OrderStands published) s number c at ordered) (λ going. next_keeps_order m published s number c c.up now fine numbered ordered at going refl)
 
--- Pump
+-- Tick and Pull
 recvs_none : (last : ℕ) (entries : List Entry) (tick : Option ℕ) → NoDones (map (λ (e : Entry). Recv e) entries ++ tick_frames (newer_tick last tick))
 recvs_none last (entry ∷ rest) tick = recvs_none last rest tick
 recvs_none last [] None = tt
@@ -268,49 +280,52 @@ recvs_none last [] (Some t) = tick_none (nat_lt last t)
 sending_as : (log : List Entry) (view first given : ℕ) (ups : List ClientFrame) (a b : Option Cursor) → (IsStale log a → IsStale log b) → Sending log view first given ups a → Sending log view first given ups b
 sending_as log view first given ups a b line_stays sending = elim sending [ inl flowing ↦ inl flowing | inr others ↦ elim others [ inl blocked ↦ inr (inl blocked) | inr stale ↦ inr (inr (line_stays stale)) ] ]
 
--- the same log, at another horizon
-abbrev at_horizon : PlainSession → ℕ → PlainSession
-at_horizon s horizon = record { log = s.log; horizon = horizon; kept = s.kept }
+pub tick_keeps_order : {W O : Type 0} (published : ViewPayloads) (s : System W O) (now : ℕ) → OrderStands published s → OrderStands published (record s { session = (answer s.session (request.Tick now)).session })
+tick_keeps_order published s now ordered = record { short = ordered.short; within = ordered.within; apart = ordered.apart; runs = ordered.runs }
 
-session_keeps_order : {W O : Type 0} (published : ViewPayloads) (s : System W O) (horizon : ℕ) → OrderStands published s → OrderStands published (record { session = at_horizon s.session horizon; clients = s.clients; connections = s.connections })
-session_keeps_order published s horizon ordered = record { short = ordered.short; within = ordered.within; apart = ordered.apart; runs = ordered.runs }
+batch_none : (cursor : Cursor) (answered : Reply) → NoDones (next_frames cursor answered)
+batch_none cursor (reply.Batch entries tick) = recvs_none cursor.last_tick entries tick
+batch_none cursor (reply.Joined seq time last from base) = tt
+batch_none cursor (reply.Stamped seq time) = tt
+batch_none cursor (reply.Again seq time) = tt
+batch_none cursor (reply.Ticked time) = tt
+batch_none cursor (reply.Left seq time) = tt
+batch_none cursor reply.Kept = tt
+batch_none cursor (reply.Refused why) = tt
 
-batch_keeps_order : {W O : Type 0} (m : Worlds W O) (published : ViewPayloads) (s : System W O) (number : ℕ) (c : Connection) (cursor : Cursor) (horizon : ℕ) (answered : Reply) → WorldsStand m s → NumbersStand published s → OrderStands published s → slice_get s.connections number ≡ Some c → c.cursor ≡ Some cursor → OrderStands published (pump_batch s number c cursor (at_horizon s.session horizon) answered)
-batch_keeps_order m published s number c cursor horizon (reply.Batch entries tick) fine numbered ordered at is =
-    let new = at_horizon s.session horizon in
-    let next = next_cursor cursor (reply.Batch entries tick) in
-    let frames = next_frames cursor (reply.Batch entries tick) in
-    let none = recvs_none cursor.last_tick entries tick in
+next_stale : (log : List Entry) (cursor next : Cursor) → NextSame cursor next → IsStale log (Some cursor) → IsStale log (Some next)
+next_stale log cursor next same stale = subst (λ (v : ℕ). is_stale log v next.joined ≡ true) (sym same.view) (subst (λ (j : ℕ). is_stale log cursor.view j ≡ true) (sym same.joined) stale)
+
+joined_keeps_order : {W O : Type 0} (m : Worlds W O) (published : ViewPayloads) (s : System W O) (number : ℕ) (c : Connection) (cursor : Option Cursor) → WorldsStand m s → NumbersStand published s → OrderStands published s → slice_get s.connections number ≡ Some c → c.cursor ≡ cursor
+    → OrderStands published (with_both s number (after_joined s.session c cursor))
+joined_keeps_order m published s number c None fine numbered ordered at is = rests (OrderStands published) s number c at ordered
+joined_keeps_order m published s number c (Some cursor) fine numbered ordered at is =
+    let answered = (answer s.session (pull_request cursor)).reply in
+    let next = next_cursor cursor answered in
+    let same = next_same cursor answered in
+    let frames = next_frames cursor answered in
+    let none = batch_none cursor answered in
     let changed = put_down (with_cursor c (Some next)) frames in
-    order_changes m published s new number c changed fine numbered ordered at (record { longer = omega arith; stale = λ v j le stale. stale; events = λ v. inl refl })
-    (λ b is_b. inl (cursor, is, let same : cursor.joined ≡ b.joined = ap (λ (x : Option Cursor). joined_of x) is_b in same))
+    subst (λ (x : Connection). OrderStands published (with_both s number (s.session, x))) (sym (over_stays changed))
+    (order_changes m published s s.session number c changed fine numbered ordered at (moves_same s.session c.cursor)
+    (λ b is_b. inl (cursor, is, sym same.joined ∙ (let next_is : next.joined ≡ b.joined = ap (λ (x : Option Cursor). joined_of x) is_b in next_is)))
     (λ view client is_client newest runs.
     let r = client.replica in
     record {
       dones = λ synced. dones_if r.acknowledged 0 c.closed c.down frames (λ ready. (none_rises _ frames none).0) (runs.dones synced);
-      sends = λ synced ready going. sending_put new.log r.view r.acknowledged r.given c.up (Some next) c.closed c.down frames ready
-          (subst (λ (k : ℕ). Sending new.log r.view k r.given c.up (Some next)) (sym (none_rises (dones_end r.acknowledged c.down) frames none).1)
-          (sending_as new.log r.view (dones_end r.acknowledged c.down) r.given c.up c.cursor (Some next) (λ stale. subst (IsStale s.session.log) is stale) (runs.sends synced ready going)));
+      sends = λ synced ready going. sending_put s.session.log r.view r.acknowledged r.given c.up (Some next) c.closed c.down frames ready
+          (subst (λ (k : ℕ). Sending s.session.log r.view k r.given c.up (Some next)) (sym (none_rises (dones_end r.acknowledged c.down) frames none).1)
+          (sending_as s.session.log r.view (dones_end r.acknowledged c.down) r.given c.up c.cursor (Some next) (λ stale. next_stale s.session.log cursor next same (subst (IsStale s.session.log) is stale)) (runs.sends synced ready going)));
       none_up = runs.none_up;
       none_down = λ waiting. none_put c.closed c.down frames (runs.none_down waiting) none;
       given = runs.given;
-    })
+    }))
   where
     joined_of : Option Cursor → ℕ
     joined_of None = 0
     joined_of (Some x) = x.joined
-batch_keeps_order m published s number c cursor horizon (reply.Joined seq time last from base) fine numbered ordered at is = session_keeps_order published s horizon ordered
-batch_keeps_order m published s number c cursor horizon (reply.Stamped seq time) fine numbered ordered at is = session_keeps_order published s horizon ordered
-batch_keeps_order m published s number c cursor horizon (reply.Again seq time) fine numbered ordered at is = session_keeps_order published s horizon ordered
-batch_keeps_order m published s number c cursor horizon (reply.Ticked time) fine numbered ordered at is = session_keeps_order published s horizon ordered
-batch_keeps_order m published s number c cursor horizon (reply.Left seq time) fine numbered ordered at is = session_keeps_order published s horizon ordered
-batch_keeps_order m published s number c cursor horizon reply.Kept fine numbered ordered at is = session_keeps_order published s horizon ordered
-batch_keeps_order m published s number c cursor horizon (reply.Refused why) fine numbered ordered at is = session_keeps_order published s horizon ordered
 
-pump_with_keeps_order : {W O : Type 0} (m : Worlds W O) (published : ViewPayloads) (s : System W O) (number : ℕ) (c : Connection) (cursor : Option Cursor) (now : ℕ) → WorldsStand m s → NumbersStand published s → OrderStands published s → slice_get s.connections number ≡ Some c → c.cursor ≡ cursor → OrderStands published (pump_with s number c cursor now)
-pump_with_keeps_order m published s number c None now fine numbered ordered at is = ordered
-pump_with_keeps_order m published s number c (Some cursor) now fine numbered ordered at is = batch_keeps_order m published s number c cursor (answer s.session (request.Tick now)).session.horizon _ fine numbered ordered at is
-
-pub pump_keeps_order : {W O : Type 0} (m : Worlds W O) (published : ViewPayloads) (s : System W O) (number : ℕ) (found : Option Connection) (now : ℕ) → WorldsStand m s → NumbersStand published s → OrderStands published s → slice_get s.connections number ≡ found → OrderStands published (pump_on s number found now)
-pump_keeps_order m published s number None now fine numbered ordered at = ordered
-pump_keeps_order m published s number (Some c) now fine numbered ordered at = order_if published c.over s _ (λ h. ordered) (λ going. pump_with_keeps_order m published s number c c.cursor now fine numbered ordered at refl)
+pub pull_keeps_order : {W O : Type 0} (m : Worlds W O) (published : ViewPayloads) (s : System W O) (number : ℕ) (found : Option Connection) → WorldsStand m s → NumbersStand published s → OrderStands published s → slice_get s.connections number ≡ found → OrderStands published (pull_on s number found)
+pull_keeps_order m published s number None fine numbered ordered at = ordered
+pull_keeps_order m published s number (Some c) fine numbered ordered at =
+    both_if (OrderStands published) s number c.over (s.session, c) (after_joined s.session c c.cursor) (λ over. rests (OrderStands published) s number c at ordered) (λ going. joined_keeps_order m published s number c c.cursor fine numbered ordered at refl)

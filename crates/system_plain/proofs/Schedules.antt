@@ -12,18 +12,18 @@ use Rattle.replica_plain.specs.Worlds.{AreWorlds, Worlds}
 use Rattle.replica_plain.proofs.FrameSteps.{behind_entry, behind_tick, when_synced_is}
 use Rattle.replica_plain.proofs.SyncSteps.{sync_begins}
 use Rattle.system_plain.specs.Schedule.{AreTypedSteps, IsNoSurprise, IsSchedule, IsTypedStep, SpellWorlds, SpellsWorld, SpellsWorldBy, SpellsWorldOn, ViewPayloads, next_fault_of, next_fault_on, nothing_published, published_after, published_by, run_schedule}
-use Rattle.system_plain.specs.Steps.{Cut, Found, Publish, Pump, Receive, Reconnect, Restart, Snap, SystemStep, Take, Transmit, after_step}
+use Rattle.system_plain.specs.Steps.{Cut, Found, Publish, Pull, Receive, Reconnect, Restart, Snap, SystemStep, Take, Tick as Ticks, Transmit, after_step}
 use Rattle.system_plain.specs.System.{Client, Connection, System, first_system, view_client}
 use Rattle.system_plain.specs.Traffic.{Traffics, traffics_after, traffics_by}
 use Rattle.system_plain.proofs.Facts.{NewestStands, WaitsForSync, WorldStands, WorldsStand}
 use Rattle.system_plain.proofs.Numbers.{DonesWithin, LogNumbers, NumbersStand, ReplicaNumbers, counted}
-use Rattle.system_plain.proofs.NumbersKeep.{pump_keeps_numbers, take_keeps_numbers}
+use Rattle.system_plain.proofs.NumbersKeep.{pull_keeps_numbers, take_keeps_numbers, tick_keeps_numbers}
 use Rattle.system_plain.proofs.NumbersQuiet.{cut_keeps_numbers, found_keeps_numbers, publish_keeps_numbers, receive_keeps_numbers, reconnect_keeps_numbers, restart_keeps_numbers, snap_keeps_numbers, transmit_keeps_numbers}
-use Rattle.system_plain.proofs.Openings.{pump_keeps_worlds, take_keeps_worlds}
+use Rattle.system_plain.proofs.Openings.{pull_keeps_worlds, take_keeps_worlds, tick_keeps_worlds}
 use Rattle.system_plain.proofs.Order.{OrderStands, RunsInOrder}
 use Rattle.system_plain.proofs.OrderQuiet.{cut_keeps_order, found_keeps_order, publish_keeps_order, reconnect_keeps_order, restart_keeps_order, snap_keeps_order, transmit_keeps_order}
 use Rattle.system_plain.proofs.OrderReceive.{receive_keeps_order}
-use Rattle.system_plain.proofs.OrderTakes.{pump_keeps_order, take_keeps_order}
+use Rattle.system_plain.proofs.OrderTakes.{pull_keeps_order, take_keeps_order, tick_keeps_order}
 use Rattle.system_plain.proofs.Pace.{DonesRise, done_is_taken}
 use Rattle.system_plain.proofs.Quiet.{cut_keeps_worlds, found_keeps_worlds, publish_keeps_worlds, reconnect_keeps_worlds, restart_keeps_worlds, snap_keeps_worlds, transmit_keeps_worlds}
 use Rattle.system_plain.proofs.Receives.{may_join, receive_keeps_worlds}
@@ -39,7 +39,8 @@ step_keeps m laws published s (Found view) typed spells kept = record { fine = f
 step_keeps m laws published s (Publish view payload) typed spells kept = record { fine = publish_keeps_worlds m s view payload (view_client s.clients view) kept.fine refl; numbered = publish_keeps_numbers published s view payload (view_client s.clients view) kept.numbered refl; ordered = publish_keeps_order published s view payload (view_client s.clients view) kept.ordered refl }
 step_keeps m laws published s (Transmit view) typed spells kept = record { fine = transmit_keeps_worlds m s view (view_client s.clients view) kept.fine refl; numbered = transmit_keeps_numbers m published s view (view_client s.clients view) kept.fine kept.numbered refl; ordered = transmit_keeps_order m published s view (view_client s.clients view) kept.fine kept.numbered kept.ordered refl }
 step_keeps m laws published s (Take number now) typed spells kept = record { fine = take_keeps_worlds m s number (slice_get s.connections number) now kept.fine (counted published s kept.numbered) refl; numbered = take_keeps_numbers m published s number (slice_get s.connections number) now kept.numbered refl; ordered = take_keeps_order m published s number (slice_get s.connections number) now kept.fine kept.numbered kept.ordered refl }
-step_keeps m laws published s (Pump number now) typed spells kept = record { fine = pump_keeps_worlds m s number (slice_get s.connections number) now kept.fine refl; numbered = pump_keeps_numbers published s number (slice_get s.connections number) now kept.numbered refl; ordered = pump_keeps_order m published s number (slice_get s.connections number) now kept.fine kept.numbered kept.ordered refl }
+step_keeps m laws published s (Ticks now) typed spells kept = record { fine = tick_keeps_worlds m s now kept.fine; numbered = tick_keeps_numbers published s now kept.numbered; ordered = tick_keeps_order published s now kept.ordered }
+step_keeps m laws published s (Pull number) typed spells kept = record { fine = pull_keeps_worlds m s number (slice_get s.connections number) kept.fine refl; numbered = pull_keeps_numbers published s number (slice_get s.connections number) kept.numbered refl; ordered = pull_keeps_order m published s number (slice_get s.connections number) kept.fine kept.numbered kept.ordered refl }
 step_keeps m laws published s (Receive view) typed spells kept = record { fine = receive_keeps_worlds m laws s view (view_client s.clients view) kept.fine refl; numbered = receive_keeps_numbers m published s view (view_client s.clients view) kept.fine kept.numbered refl; ordered = receive_keeps_order m published s view (view_client s.clients view) kept.fine kept.numbered kept.ordered refl }
 step_keeps m laws published s (Cut number ups downs) typed spells kept = record { fine = cut_keeps_worlds m s number ups downs (slice_get s.connections number) kept.fine refl; numbered = cut_keeps_numbers published s number ups downs (slice_get s.connections number) kept.numbered refl; ordered = cut_keeps_order m published s number ups downs (slice_get s.connections number) kept.fine kept.numbered kept.ordered refl }
 step_keeps m laws published s (Reconnect view how) typed spells kept = record { fine = reconnect_keeps_worlds m s view how (view_client s.clients view) kept.fine refl; numbered = reconnect_keeps_numbers m published s view how (view_client s.clients view) kept.numbered refl; ordered = reconnect_keeps_order m published s view how (view_client s.clients view) kept.fine kept.ordered refl }
@@ -153,7 +154,8 @@ step_spells m s (Found view) each fine = tt
 step_spells m s (Publish view payload) each fine = tt
 step_spells m s (Transmit view) each fine = tt
 step_spells m s (Take number now) each fine = tt
-step_spells m s (Pump number now) each fine = tt
+step_spells m s (Ticks now) each fine = tt
+step_spells m s (Pull number) each fine = tt
 step_spells m s (Receive view) each fine = tt
 step_spells m s (Cut number ups downs) each fine = tt
 step_spells m s (Reconnect view how) each fine = tt

@@ -1,5 +1,5 @@
--- The steps Take and Pump keep the facts.
-use Rattle.std.proofs.Common.{ℕ, ◌≡◌, ◌≤◌, ◌<◌, ◌^◌, inl, inr, Bool, true, false, cond, ◌||◌, List, [], ◌∷◌, ◌++◌, Option, Some, slice_get, refl, sym, ap, subst}
+-- The answers to later frames keep the facts.
+use Rattle.std.proofs.Common.{ℕ, ◌≡◌, ◌≤◌, ◌<◌, ◌^◌, inl, inr, Bool, true, false, cond, ◌||◌, List, [], ◌∷◌, ◌++◌, Option, Some, slice_get, refl, ap, subst}
 use Rattle.tea_base.specs.declared.entry.Entry.{Entry}
 use Rattle.wire_frames.specs.declared.frame.ClientFrame.{ClientFrame}
 use Rattle.wire_frames.specs.declared.frame.ClientFrame.TheVariants as up
@@ -19,17 +19,20 @@ use Rattle.reflector_core.proofs.SoundLaws.{IsBounded}
 use Rattle.replica_plain.specs.Following.{IsHonestBase}
 use Rattle.replica_plain.specs.PlainReplica.{PlainReplica}
 use Rattle.replica_plain.specs.Worlds.{IsHonest, Worlds}
+use Rattle.join_sync.specs.declared.act.Act.TheVariants.{Answer, Call}
 use Rattle.join_sync.specs.declared.cursor.Cursor.{Cursor}
 use Rattle.join_sync.specs.Answers.{answer_frame, leave_answer, send_answer, snap_answer}
 use Rattle.join_sync.specs.Refusals.{refused_frame, second_join_frame}
 use Rattle.join_sync.specs.Requests.{act_on}
-use Rattle.system_plain.specs.Steps.{answer_frames, ask_on, ends_connection, take_act}
-use Rattle.system_plain.specs.System.{Connection, System, over_if, put_down, with_connection, with_cursor, with_up}
+use Rattle.system_plain.specs.Steps.{told_connection}
+use Rattle.system_plain.specs.System.{Connection, System, over_if, put_down, with_cursor, with_up}
+use Rattle.system_plain.specs.Turn.{answer_frames, ask_told, ends_connection, frame_told}
 use Rattle.system_plain.proofs.AnswerFrames.{of_leave_answer, of_refusal, of_snap_answer}
 use Rattle.system_plain.proofs.Changes.{connection_changes}
 use Rattle.system_plain.proofs.Facts.{FlowsFrom, Meets, NewestStands, SnapsHonest, TicksWithin, WaitsForSync, WorldsStand, awaited_flows}
 use Rattle.system_plain.proofs.FactsGrow.{base_grows, joined_grows, snaps_grow}
 use Rattle.system_plain.proofs.Sessions.{Grows-same, SessionGoesOn, kept_is_based, session_goes_on}
+use Rattle.system_plain.proofs.Turns.{take_act}
 
 -- the frames say nothing of the log
 abbrev pub AreAnswers : List ServerFrame → Type 0
@@ -144,10 +147,9 @@ pub replies_go_on : (s : PlainSession) (cursor : Cursor) (more : List ServerFram
 replies_go_on s cursor more are place meets = let on = replies_stream s.log place more are in record { streams = on.0; ticks = replies_ticks s.horizon more are; meets = rw on.1 meets }
 
 -- replies that are put down on a connection with a cursor
-replies_on : {W O : Type 0} (m : Worlds W O) (s : PlainSession) (r : PlainReplica W O) (c : Connection) (cursor : Cursor) (ups : List ClientFrame) (more : List ServerFrame) (over : Bool) → c.over ≡ false → c.cursor ≡ Some cursor → AreAnswers more → NewestStands m s r c → NewestStands m s r (over_if over (put_down (with_up c ups) more))
-replies_on m s r c cursor ups more over going is are joined =
-    subst (λ (x : Option Cursor). NewestStands m s r (over_if over (put_down (with_cursor (with_up c ups) x) more))) (sym is)
-    (sends_on m s r c cursor cursor ups more over going is (replies_go_on s cursor more are) joined)
+replies_on : {W O : Type 0} (m : Worlds W O) (s : PlainSession) (r : PlainReplica W O) (c : Connection) (cursor : Cursor) (ups : List ClientFrame) (more : List ServerFrame) (over : Bool) → c.over ≡ false → c.cursor ≡ Some cursor → AreAnswers more → NewestStands m s r c
+    → NewestStands m s r (over_if over (put_down (with_cursor (with_up c ups) (Some cursor)) more))
+replies_on m s r c cursor ups more over going is are joined = sends_on m s r c cursor cursor ups more over going is (replies_go_on s cursor more are) joined
 
 -- what is kept after a request is honest, if what is offered is
 abbrev OffersHonest : {W O : Type 0} → Worlds W O → PlainSession → Request → Type 0
@@ -170,12 +172,13 @@ kept_honest m s new (request.Leave view joined now) sound kept offers on = rw on
 kept_honest m s new (request.Pull after limit) sound kept offers on = rw on.kept (base_grows m s new s.kept on.grows (kept_is_based s.horizon s.kept sound.kept) kept)
 
 -- a later frame makes a request
-calls_keeps_worlds : {W O : Type 0} (m : Worlds W O) (s : System W O) (number : ℕ) (c : Connection) (cursor : Cursor) (rest : List ClientFrame) (asked : Request) → WorldsStand m s → slice_get s.connections number ≡ Some c → c.over ≡ false → c.cursor ≡ Some cursor → SnapsHonest m s.session rest → OffersHonest m s.session asked → IsBounded asked → AreAnswers (answer_frames (answer_frame asked (answer s.session asked).reply)) → WorldsStand m (ask_on s number (with_up c rest) asked)
+calls_keeps_worlds : {W O : Type 0} (m : Worlds W O) (s : System W O) (number : ℕ) (c : Connection) (cursor : Cursor) (rest : List ClientFrame) (asked : Request) → WorldsStand m s → slice_get s.connections number ≡ Some c → c.over ≡ false → c.cursor ≡ Some cursor → SnapsHonest m s.session rest → OffersHonest m s.session asked → IsBounded asked
+    → AreAnswers (answer_frames (answer_frame asked (answer s.session asked).reply)) → WorldsStand m (take_act s number (with_up c rest) cursor (Call asked))
 calls_keeps_worlds m s number c cursor rest asked fine at going is snaps offers bound are =
     let on = session_goes_on s.session asked fine.sound bound in
     let new = (answer s.session asked).session in
     let answered = (answer s.session asked).reply in
-    connection_changes m s new number c (over_if (ends_connection answered) (put_down (with_up c rest) (answer_frames (answer_frame asked answered)))) fine at on.grows on.sound (kept_honest m s.session new asked fine.sound fine.kept offers on) (snaps_grow m s.session new rest on.grows snaps)
+    connection_changes m s new number c (told_connection (with_up c rest) (ask_told cursor asked answered)) fine at on.grows on.sound (kept_honest m s.session new asked fine.sound fine.kept offers on) (snaps_grow m s.session new rest on.grows snaps)
     (λ view client is_client same joined. replies_on m new client.replica c cursor rest (answer_frames (answer_frame asked answered)) (ends_connection answered) going is are
     (joined_grows m s.session new client.replica c on.grows (fine.lives view client is_client) joined))
 
@@ -187,12 +190,13 @@ pub over_stays : (d : Connection) → over_if false d ≡ d
 over_stays d = ap (λ (b : Bool). record { view = d.view; up = d.up; down = d.down; cursor = d.cursor; closed = d.closed; over = b }) (or_false d.over)
 
 -- it is answered at once
-answers_keeps_worlds : {W O : Type 0} (m : Worlds W O) (s : System W O) (number : ℕ) (c : Connection) (cursor : Cursor) (rest : List ClientFrame) (frame : ServerFrame) → WorldsStand m s → slice_get s.connections number ≡ Some c → c.over ≡ false → c.cursor ≡ Some cursor → SnapsHonest m s.session rest → AreAnswers (frame ∷ []) → WorldsStand m (with_connection s number (put_down (with_up c rest) (frame ∷ [])))
+answers_keeps_worlds : {W O : Type 0} (m : Worlds W O) (s : System W O) (number : ℕ) (c : Connection) (cursor : Cursor) (rest : List ClientFrame) (frame : ServerFrame) → WorldsStand m s → slice_get s.connections number ≡ Some c → c.over ≡ false → c.cursor ≡ Some cursor → SnapsHonest m s.session rest → AreAnswers (frame ∷ [])
+    → WorldsStand m (take_act s number (with_up c rest) cursor (Answer frame))
 answers_keeps_worlds m s number c cursor rest frame fine at going is snaps are =
-    connection_changes m s s.session number c (put_down (with_up c rest) (frame ∷ [])) fine at (Grows-same s.session) fine.sound fine.kept snaps
-    (λ view client is_client same joined. subst (λ (x : Connection). NewestStands m s.session client.replica x) (over_stays (put_down (with_up c rest) (frame ∷ []))) (replies_on m s.session client.replica c cursor rest (frame ∷ []) false going is are joined))
+    connection_changes m s s.session number c (told_connection (with_up c rest) (frame_told (Some cursor) frame)) fine at (Grows-same s.session) fine.sound fine.kept snaps
+    (λ view client is_client same joined. replies_on m s.session client.replica c cursor rest (frame ∷ []) false going is are joined)
 
-pub act_keeps_worlds : {W O : Type 0} (m : Worlds W O) (s : System W O) (number : ℕ) (c : Connection) (cursor : Cursor) (frame : ClientFrame) (rest : List ClientFrame) (now : ℕ) → WorldsStand m s → slice_get s.connections number ≡ Some c → c.over ≡ false → c.cursor ≡ Some cursor → cursor.view < 2 ^ 32 → SnapsHonest m s.session (frame ∷ rest) → WorldsStand m (take_act s number (with_up c rest) (act_on cursor frame now))
+pub act_keeps_worlds : {W O : Type 0} (m : Worlds W O) (s : System W O) (number : ℕ) (c : Connection) (cursor : Cursor) (frame : ClientFrame) (rest : List ClientFrame) (now : ℕ) → WorldsStand m s → slice_get s.connections number ≡ Some c → c.over ≡ false → c.cursor ≡ Some cursor → cursor.view < 2 ^ 32 → SnapsHonest m s.session (frame ∷ rest) → WorldsStand m (take_act s number (with_up c rest) cursor (act_on cursor frame now))
 act_keeps_worlds m s number c cursor (up.Join session view want) rest now fine at going is bound snaps = answers_keeps_worlds m s number c cursor rest second_join_frame fine at going is snaps tt
 act_keeps_worlds m s number c cursor (up.Send k payload) rest now fine at going is bound snaps = calls_keeps_worlds m s number c cursor rest (request.Send cursor.view cursor.joined k payload now) fine at going is snaps tt bound (send_replies k _)
 act_keeps_worlds m s number c cursor (up.Snap time bytes) rest now fine at going is bound snaps = calls_keeps_worlds m s number c cursor rest (request.Offer cursor.view cursor.joined time bytes) fine at going is snaps.1 snaps.0 bound (snap_replies time _)

@@ -1,45 +1,43 @@
 -- What each connection of a system was sent, as far as it was not lost, is served by the log.
-use Rattle.std.specs.Str.{bytes_eq}
 use Rattle.std.proofs.lemmas.Bool.Decides.{nat_tests}
 use Rattle.std.proofs.lemmas.Option.{slice_get_within}
 use Rattle.std.proofs.lemmas.List.{length-set, take-append-drop}
-use Rattle.std.proofs.Common.{ℕ, ◌+◌, ◌≡◌, ◌≢◌, ◌≤◌, inl, inr, Bool, true, false, cond, eqb, ◌||◌, List, [], ◌∷◌, ◌++◌, Option, Some, None, Ok, Err, is_some, length, length-append, set, slice_get, take, drop, refl, sym, ap, ◌∙◌, subst, arith, append_assoc}
+use Rattle.std.proofs.Common.{ℕ, ◌+◌, ◌≡◌, ◌≢◌, ◌≤◌, inl, inr, Bool, true, false, cond, eqb, ◌||◌, List, [], ◌∷◌, ◌++◌, Option, Some, None, is_some, length, length-append, set, slice_get, take, drop, refl, sym, ap, ◌∙◌, subst, arith, append_assoc}
 use Rattle.tea_base.specs.declared.entry.SessionId.{SessionId}
 use Rattle.wire_frames.specs.declared.frame.ClientFrame.{ClientFrame}
 use Rattle.wire_frames.specs.declared.frame.ClientFrame.TheVariants as up
 use Rattle.wire_frames.specs.declared.frame.ServerFrame.{ServerFrame}
-use Rattle.wire_frames.specs.declared.frame.ServerFrame.TheVariants.{Alive, Refused}
-use Rattle.wire_frames.specs.declared.start.Want.{Want}
 use Rattle.wire_frames.specs.Served.{Served}
 use Rattle.reflector_core.specs.declared.request.Reply.{Reply}
 use Rattle.reflector_core.specs.declared.request.Reply.TheVariants as reply
 use Rattle.reflector_core.specs.declared.request.Request.{Request}
 use Rattle.reflector_core.specs.declared.request.Request.TheVariants as request
-use Rattle.reflector_core.specs.Answer.{answer, tick}
+use Rattle.reflector_core.specs.Answer.{answer}
 use Rattle.reflector_core.specs.PlainSession.{IsSoundSession, PlainSession}
 use Rattle.replica_plain.specs.declared.how.How.{How}
 use Rattle.replica_plain.specs.declared.how.How.TheVariants.{Fresh}
 use Rattle.replica_plain.specs.Calls.{join_frame, loses, snap_frame, unsent}
 use Rattle.replica_plain.specs.PlainReplica.{PlainReplica, new_replica}
 use Rattle.replica_plain.specs.Worlds.{AreWorlds, Worlds}
+use Rattle.join_sync.specs.declared.act.Act.{Act}
+use Rattle.join_sync.specs.declared.act.Act.TheVariants.{Answer, Call}
 use Rattle.join_sync.specs.declared.cursor.Cursor.{Cursor}
-use Rattle.join_sync.specs.declared.early.Early.{Early}
-use Rattle.join_sync.specs.declared.early.Early.TheVariants.{NotJoined, OtherSession}
-use Rattle.join_sync.specs.Refusals.{early_frame, second_join_frame}
-use Rattle.system_plain.specs.ConnectionLine.{ConnectionLine, hears, hears_first, line_on, open_connection, pumps, pumps_batch, with_line}
+use Rattle.system_plain.specs.ConnectionLine.{ConnectionLine, hears, line_on, open_connection, pulls, with_line}
 use Rattle.system_plain.specs.Schedule.{AreTypedSteps, IsSchedule, SpellWorlds, ViewPayloads, after_schedule, nothing_published, published_after, run_schedule}
-use Rattle.system_plain.specs.Steps.{Cut, Found, Publish, Pump, Receive, Reconnect, Restart, Snap, SystemStep, Take, Transmit, after_step, ask_on, asked_connection, connect, cut_on, found, joined_connection, leave_on, may_publish, publish_by, pump_batch, pump_on, pump_with, receive_by, receive_next, receive_on, reconnect_by, restart_by, snap_by, snap_on, take_first, take_frame, take_on, transmit_by, transmit_on, whole_for}
-use Rattle.system_plain.specs.System.{Client, Connection, System, close, closing, connecting, first_system, is_open, over_if, put_down, put_up, view_client, with_connection, with_down, with_up}
+use Rattle.system_plain.specs.Steps.{Cut, Found, Publish, Pull, Receive, Reconnect, Restart, Snap, SystemStep, Take, Tick, Transmit, after_joined, after_leave, after_step, behind_turn, connect, cut_on, found, may_publish, publish_by, pull_on, receive_by, receive_next, receive_on, reconnect_by, restart_by, snap_by, snap_on, take_on, told_connection, transmit_by, transmit_on, whole_for, with_both}
+use Rattle.system_plain.specs.System.{Client, Connection, System, close, closing, connecting, first_system, is_open, over_if, put_up, view_client, with_down, with_up}
+use Rattle.system_plain.specs.Turn.{act_turn, heard_act, leave_request}
 use Rattle.system_plain.specs.Traffic.{Traffic, Traffics, given_next, given_on, no_traffic, received_by, received_next, received_on, traffics_after, traffics_by, traffics_in, with_given, with_received}
 use Rattle.system_plain.proofs.Changes.{get_close_on, length-close_on}
-use Rattle.system_plain.proofs.ClosedLines.{ClosedStands, StandsBy, closed_front, closed_grow, closed_more, hears_given, hears_prefixed, prefixed, pumps_given, pumps_prefixed, stands_by_grow, stands_by_is_served, stands_closed}
-use Rattle.system_plain.proofs.LineSteps.{pump_is_turn, take_is_turn}
-use Rattle.system_plain.proofs.Lines.{LineStands, Stands, hears_stands, pumps_stands}
+use Rattle.system_plain.proofs.ClosedLines.{ClosedStands, StandsBy, closed_front, closed_grow, closed_more, hears_prefixed, prefixed, pulls_given, pulls_prefixed, stands_by_grow, stands_by_is_served, stands_closed}
+use Rattle.system_plain.proofs.LineSteps.{pull_is_turn, take_is_turn}
+use Rattle.system_plain.proofs.Lines.{LineStands, Stands, hears_stands, pulls_stands}
 use Rattle.system_plain.proofs.Lookups.{get_push, get_set}
 use Rattle.system_plain.proofs.NumbersQuiet.{differs}
 use Rattle.system_plain.proofs.Schedules.{SystemStands, first_kept, step_keeps}
-use Rattle.system_plain.proofs.Sessions.{Grows, Grows-answer, Grows-same, session_goes_on}
-use Rattle.system_plain.proofs.StepRows.{false_chosen, going_row, true_chosen}
+use Rattle.system_plain.proofs.Sessions.{Grows, Grows-answer, Grows-same}
+use Rattle.system_plain.proofs.StepRows.{going_row, over_rests, pull_going}
+use Rattle.system_plain.proofs.Turns.{rests}
 
 -- what is true of a connection and its traffic
 abbrev CarriesAt : PlainSession → Connection → Traffic → Type 0
@@ -160,42 +158,15 @@ receive_carries m s (Some client) traffics stands = receive_on_carries m s clien
 
 -- ---- how the session of a line grows
 
-join_hears_grows : (s : PlainSession) (given : List (Option ClientFrame)) (sent : List ServerFrame) (session : SessionId) (view : ℕ) (want : Want) (now : ℕ) (own : Bool) → IsSoundSession (hears_first (line_on s None given sent) (up.Join session view want) (cond own (Ok (request.Join view now want)) (Err OtherSession))).session
-    → Grows s (hears_first (line_on s None given sent) (up.Join session view want) (cond own (Ok (request.Join view now want)) (Err OtherSession))).session
-join_hears_grows s given sent session view want now true sound = Grows-answer s (request.Join view now want) sound
-join_hears_grows s given sent session view want now false sound = Grows-same s
+act_grows : (s : PlainSession) (cursor : Option Cursor) (act : Act) → IsSoundSession (act_turn s cursor act).session → Grows s (act_turn s cursor act).session
+act_grows s cursor (Call asked) sound = Grows-answer s asked sound
+act_grows s cursor (Answer frame) sound = Grows-same s
 
-hears_grows : (id : SessionId) (s : PlainSession) (cursor : Option Cursor) (given : List (Option ClientFrame)) (sent : List ServerFrame) (frame : ClientFrame) (now : ℕ) → IsSoundSession (hears id (line_on s cursor given sent) cursor (Some frame) now).session
-    → Grows s (hears id (line_on s cursor given sent) cursor (Some frame) now).session
-hears_grows id s None given sent (up.Join session view want) now sound = join_hears_grows s given sent session view want now (bytes_eq session.0 id.0) sound
-hears_grows id s None given sent (up.Send number payload) now sound = Grows-same s
-hears_grows id s None given sent (up.Snap time bytes) now sound = Grows-same s
-hears_grows id s None given sent up.Leave now sound = Grows-same s
-hears_grows id s None given sent up.Alive now sound = Grows-same s
-hears_grows id s (Some cursor) given sent (up.Join session view want) now sound = Grows-same s
-hears_grows id s (Some cursor) given sent (up.Send number payload) now sound = Grows-answer s (request.Send cursor.view cursor.joined number payload now) sound
-hears_grows id s (Some cursor) given sent (up.Snap time bytes) now sound = Grows-answer s (request.Offer cursor.view cursor.joined time bytes) sound
-hears_grows id s (Some cursor) given sent up.Leave now sound = Grows-answer s (request.Leave cursor.view cursor.joined now) sound
-hears_grows id s (Some cursor) given sent up.Alive now sound = Grows-same s
+pulls_grow : (s : PlainSession) (cursor : Option Cursor) (given : List (Option ClientFrame)) (sent : List ServerFrame) → Grows s (pulls (line_on s cursor given sent) cursor).session
+pulls_grow s None given sent = Grows-same s
+pulls_grow s (Some cursor) given sent = Grows-same s
 
-tick_grows : (s : PlainSession) (now : ℕ) → IsSoundSession s → Grows s (answer s (request.Tick now)).session
-tick_grows s now sound = (session_goes_on s (request.Tick now) sound tt).grows
-
-batch_grows : (s new : PlainSession) (cursor : Cursor) (given : List (Option ClientFrame)) (sent : List ServerFrame) (answered : Reply) → Grows s new → Grows s (pumps_batch (line_on s (Some cursor) given sent) cursor new answered).session
-batch_grows s new cursor given sent (reply.Batch entries tick) grows = grows
-batch_grows s new cursor given sent (reply.Joined seq time last from base) grows = grows
-batch_grows s new cursor given sent (reply.Stamped seq time) grows = grows
-batch_grows s new cursor given sent (reply.Again seq time) grows = grows
-batch_grows s new cursor given sent (reply.Ticked time) grows = grows
-batch_grows s new cursor given sent (reply.Left seq time) grows = grows
-batch_grows s new cursor given sent reply.Kept grows = grows
-batch_grows s new cursor given sent (reply.Refused why) grows = grows
-
-pumps_grow : (s : PlainSession) (cursor : Option Cursor) (given : List (Option ClientFrame)) (sent : List ServerFrame) (now : ℕ) → IsSoundSession s → Grows s (pumps (line_on s cursor given sent) cursor now).session
-pumps_grow s None given sent now sound = Grows-same s
-pumps_grow s (Some cursor) given sent now sound = batch_grows s (answer s (request.Tick now)).session cursor given sent _ (tick_grows s now sound)
-
--- ---- Take and Pump on an open connection: what a line does
+-- ---- Take and Pull on an open connection: what a line does
 
 -- it is a line, sent no more than is in flight
 is_line : (s : PlainSession) (c : Connection) (ups : List ClientFrame) (given : List (Option ClientFrame)) → c.closed ≡ false → c.over ≡ false → c.up ≡ ups → c ≡ open_connection c.view ups (line_on s c.cursor given c.down)
@@ -224,23 +195,23 @@ open_take_carries m s number now c frame rest traffics stands old sound at opene
     (hears_stands id (line_on s.session c.cursor traffic.given (traffic.received ++ c.down)) c.cursor (Some frame) now old (subst (λ (x : ConnectionLine). IsSoundSession x.session) (sym prefix) new) held) in
     let after : Traffic = record { given = traffic.given ++ Some frame ∷ []; received = traffic.received } in
     subst (λ (x : System _ _). TrafficsStand x (with_given traffics number frame)) (sym turned)
-    (with_line_carries s number c rest line traffics (with_given traffics number frame) stands at (hears_grows id s.session c.cursor traffic.given c.down frame now new) (λ k far. elsewhere number k _ (traffics k) far)
-    (ap (λ (t : Traffic). t.given) (at_number number after traffic) ∙ sym (hears_given id s.session c.cursor traffic.given c.down frame now)) (ap (λ (t : Traffic). t.received) (at_number number after traffic)) heard)
+    (with_line_carries s number c rest line traffics (with_given traffics number frame) stands at (act_grows s.session c.cursor (heard_act id c.cursor (Some frame) now) new) (λ k far. elsewhere number k _ (traffics k) far)
+    (ap (λ (t : Traffic). t.given) (at_number number after traffic)) (ap (λ (t : Traffic). t.received) (at_number number after traffic)) heard)
 
-open_pump_carries : {W O : Type 0} (m : Worlds W O) (s : System W O) (number now : ℕ) (c : Connection) (traffics : Traffics) → TrafficsStand s traffics → IsSoundSession s.session → slice_get s.connections number ≡ Some c → c.closed ≡ false → c.over ≡ false
-    → TrafficsStand (after_step m s (Pump number now)) traffics
-open_pump_carries m s number now c traffics stands old at opened going =
+open_pull_carries : {W O : Type 0} (m : Worlds W O) (s : System W O) (number : ℕ) (c : Connection) (traffics : Traffics) → TrafficsStand s traffics → IsSoundSession s.session → slice_get s.connections number ≡ Some c → c.closed ≡ false → c.over ≡ false
+    → TrafficsStand (after_step m s (Pull number)) traffics
+open_pull_carries m s number c traffics stands old at opened going =
     let traffic = traffics number in
-    let line = pumps (line_on s.session c.cursor traffic.given c.down) c.cursor now in
-    let turned = pump_is_turn m s number c.view now c.cursor traffic.given c.up c.down (at ∙ ap (λ (x : Connection). Some x) (is_line s.session c c.up traffic.given opened going refl)) in
-    let prefix = pumps_prefixed s.session c.cursor traffic.given traffic.received c.down now in
+    let line = pulls (line_on s.session c.cursor traffic.given c.down) c.cursor in
+    let turned = pull_is_turn m s number c.view c.cursor traffic.given c.up c.down (at ∙ ap (λ (x : Connection). Some x) (is_line s.session c c.up traffic.given opened going refl)) in
+    let prefix = pulls_prefixed s.session c.cursor traffic.given traffic.received c.down in
     let held : Stands s.session c.cursor false traffic.given (traffic.received ++ c.down) =
     subst (λ (over : Bool). Stands s.session c.cursor over traffic.given (traffic.received ++ c.down)) going (subst (λ (closed : Bool). StandsBy closed s.session c.cursor c.over traffic.given (traffic.received ++ c.down)) opened (stands.each number c at)) in
-    let pumped = subst LineStands prefix (pumps_stands (line_on s.session c.cursor traffic.given (traffic.received ++ c.down)) c.cursor now refl refl old held) in
+    let pulled = subst LineStands prefix (pulls_stands (line_on s.session c.cursor traffic.given (traffic.received ++ c.down)) c.cursor refl refl old held) in
     subst (λ (x : System _ _). TrafficsStand x traffics) (sym turned)
-    (with_line_carries s number c c.up line traffics traffics stands at (pumps_grow s.session c.cursor traffic.given c.down now old) (λ k far. refl) (sym (pumps_given s.session c.cursor traffic.given c.down now)) refl pumped)
+    (with_line_carries s number c c.up line traffics traffics stands at (pulls_grow s.session c.cursor traffic.given c.down) (λ k far. refl) (sym (pulls_given s.session c.cursor traffic.given c.down)) refl pulled)
 
--- ---- Take and Pump on a closed connection: nothing is put down
+-- ---- Take and Pull on a closed connection: nothing is put down
 
 closed_put : (closed : Bool) (down frames : List ServerFrame) → closed ≡ true → cond closed down (down ++ frames) ≡ down
 closed_put true down frames is = refl
@@ -260,40 +231,11 @@ closed_heard s new number c changed frame traffics stands at closed grows still 
     connection_carries s new s.clients number c changed traffics (with_given traffics number frame) stands at grows (λ k far. elsewhere number k _ (traffics k) far)
     (subst (λ (t : Traffic). CarriesAt new changed t) (sym (at_number number after traffic)) (closed_carries new c changed after still same (closed_more new traffic.given (Some frame ∷ []) (traffic.received ++ c.down) held)))
 
-closed_take_first : {W O : Type 0} (s : System W O) (number : ℕ) (c : Connection) (frame : ClientFrame) (rest : List ClientFrame) (session : SessionId) (view now : ℕ) (want : Want) (own : Bool) (traffics : Traffics) → TrafficsStand s traffics → slice_get s.connections number ≡ Some c → c.closed ≡ true
-    → IsSoundSession (take_first s number (with_up c rest) frame (cond own (Ok (request.Join view now want)) (Err OtherSession))).session
-    → TrafficsStand (take_first s number (with_up c rest) frame (cond own (Ok (request.Join view now want)) (Err OtherSession))) (with_given traffics number frame)
-closed_take_first s number c frame rest session view now want true traffics stands at closed sound =
-    let answered = answer s.session (request.Join view now want) in
-    closed_heard s answered.session number c (joined_connection (with_up c rest) view answered.reply) frame traffics stands at closed (Grows-answer s.session (request.Join view now want) sound) closed (closed_put c.closed c.down _ closed)
-closed_take_first s number c frame rest session view now want false traffics stands at closed sound =
-    closed_heard s s.session number c (over_if true (put_down (with_up c rest) (early_frame OtherSession frame ∷ []))) frame traffics stands at closed (Grows-same s.session) closed (closed_put c.closed c.down _ closed)
-
-closed_early : {W O : Type 0} (s : System W O) (number : ℕ) (c : Connection) (frame : ClientFrame) (rest : List ClientFrame) (early : Early) (traffics : Traffics) → TrafficsStand s traffics → slice_get s.connections number ≡ Some c → c.closed ≡ true → TrafficsStand (take_first s number (with_up c rest) frame (Err early)) (with_given traffics number frame)
-closed_early s number c frame rest early traffics stands at closed =
-    closed_heard s s.session number c (over_if true (put_down (with_up c rest) (early_frame early frame ∷ []))) frame traffics stands at closed (Grows-same s.session) closed (closed_put c.closed c.down _ closed)
-
-closed_asks : {W O : Type 0} (s : System W O) (number : ℕ) (c : Connection) (frame : ClientFrame) (rest : List ClientFrame) (asked : Request) (traffics : Traffics) → TrafficsStand s traffics → slice_get s.connections number ≡ Some c → c.closed ≡ true → IsSoundSession (answer s.session asked).session → TrafficsStand (ask_on s number (with_up c rest) asked) (with_given traffics number frame)
-closed_asks s number c frame rest asked traffics stands at closed sound =
-    let answered = answer s.session asked in
-    closed_heard s answered.session number c (asked_connection (with_up c rest) asked answered.reply) frame traffics stands at closed (Grows-answer s.session asked sound) closed (closed_put c.closed c.down _ closed)
-
-closed_answers : {W O : Type 0} (s : System W O) (number : ℕ) (c : Connection) (frame : ClientFrame) (rest : List ClientFrame) (given : ServerFrame) (traffics : Traffics) → TrafficsStand s traffics → slice_get s.connections number ≡ Some c → c.closed ≡ true → TrafficsStand (with_connection s number (put_down (with_up c rest) (given ∷ []))) (with_given traffics number frame)
-closed_answers s number c frame rest given traffics stands at closed =
-    closed_heard s s.session number c (put_down (with_up c rest) (given ∷ [])) frame traffics stands at closed (Grows-same s.session) closed (closed_put c.closed c.down _ closed)
-
-closed_take : {W O : Type 0} (m : Worlds W O) (s : System W O) (number : ℕ) (c : Connection) (cursor : Option Cursor) (frame : ClientFrame) (rest : List ClientFrame) (now : ℕ) (traffics : Traffics) → TrafficsStand s traffics → slice_get s.connections number ≡ Some c → c.closed ≡ true
-    → IsSoundSession (take_frame m s number (with_up c rest) cursor frame now).session → TrafficsStand (take_frame m s number (with_up c rest) cursor frame now) (with_given traffics number frame)
-closed_take m s number c None (up.Join session view want) rest now traffics stands at closed sound = closed_take_first s number c (up.Join session view want) rest session view now want (bytes_eq session.0 m.session) traffics stands at closed sound
-closed_take m s number c None (up.Send k payload) rest now traffics stands at closed sound = closed_early s number c (up.Send k payload) rest NotJoined traffics stands at closed
-closed_take m s number c None (up.Snap time bytes) rest now traffics stands at closed sound = closed_early s number c (up.Snap time bytes) rest NotJoined traffics stands at closed
-closed_take m s number c None up.Leave rest now traffics stands at closed sound = closed_early s number c up.Leave rest NotJoined traffics stands at closed
-closed_take m s number c None up.Alive rest now traffics stands at closed sound = closed_early s number c up.Alive rest NotJoined traffics stands at closed
-closed_take m s number c (Some cursor) (up.Join session view want) rest now traffics stands at closed sound = closed_answers s number c (up.Join session view want) rest second_join_frame traffics stands at closed
-closed_take m s number c (Some cursor) (up.Send k payload) rest now traffics stands at closed sound = closed_asks s number c (up.Send k payload) rest (request.Send cursor.view cursor.joined k payload now) traffics stands at closed sound
-closed_take m s number c (Some cursor) (up.Snap time bytes) rest now traffics stands at closed sound = closed_asks s number c (up.Snap time bytes) rest (request.Offer cursor.view cursor.joined time bytes) traffics stands at closed sound
-closed_take m s number c (Some cursor) up.Leave rest now traffics stands at closed sound = closed_asks s number c up.Leave rest (request.Leave cursor.view cursor.joined now) traffics stands at closed sound
-closed_take m s number c (Some cursor) up.Alive rest now traffics stands at closed sound = closed_answers s number c up.Alive rest Alive traffics stands at closed
+closed_take : {W O : Type 0} (s : System W O) (number : ℕ) (c : Connection) (cursor : Option Cursor) (frame : ClientFrame) (rest : List ClientFrame) (act : Act) (traffics : Traffics) → TrafficsStand s traffics → slice_get s.connections number ≡ Some c → c.closed ≡ true → IsSoundSession (act_turn s.session cursor act).session
+    → TrafficsStand (with_both s number (behind_turn (with_up c rest) (act_turn s.session cursor act))) (with_given traffics number frame)
+closed_take s number c cursor frame rest act traffics stands at closed sound =
+    let turn = act_turn s.session cursor act in
+    closed_heard s turn.session number c (told_connection (with_up c rest) turn.told) frame traffics stands at closed (act_grows s.session cursor act sound) closed (closed_put c.closed c.down _ closed)
 
 closed_changes : {W O : Type 0} (s : System W O) (new : PlainSession) (number : ℕ) (c changed : Connection) (traffics : Traffics) → TrafficsStand s traffics → slice_get s.connections number ≡ Some c → Grows s.session new → changed.closed ≡ true → changed.down ≡ c.down
     → TrafficsStand (record { session = new; clients = s.clients; connections = set s.connections number changed }) traffics
@@ -302,30 +244,21 @@ closed_changes s new number c changed traffics stands at grows still same =
     let held = closed_grow s.session new traffic.given (traffic.received ++ c.down) grows (stands_closed c.closed s.session c.cursor c.over traffic.given (traffic.received ++ c.down) (stands.each number c at)) in
     connection_carries s new s.clients number c changed traffics traffics stands at grows (λ k far. refl) (closed_carries new c changed traffic still same held)
 
-closed_pump : {W O : Type 0} (s : System W O) (number : ℕ) (c : Connection) (cursor : Cursor) (new : PlainSession) (answered : Reply) (traffics : Traffics) → TrafficsStand s traffics → slice_get s.connections number ≡ Some c → c.closed ≡ true → Grows s.session new → TrafficsStand (pump_batch s number c cursor new answered) traffics
-closed_pump s number c cursor new (reply.Batch entries tick) traffics stands at closed grows = closed_changes s new number c _ traffics stands at grows closed (closed_put c.closed c.down _ closed)
-closed_pump s number c cursor new (reply.Joined seq time last from base) traffics stands at closed grows = session_carries s new traffics stands grows
-closed_pump s number c cursor new (reply.Stamped seq time) traffics stands at closed grows = session_carries s new traffics stands grows
-closed_pump s number c cursor new (reply.Again seq time) traffics stands at closed grows = session_carries s new traffics stands grows
-closed_pump s number c cursor new (reply.Ticked time) traffics stands at closed grows = session_carries s new traffics stands grows
-closed_pump s number c cursor new (reply.Left seq time) traffics stands at closed grows = session_carries s new traffics stands grows
-closed_pump s number c cursor new reply.Kept traffics stands at closed grows = session_carries s new traffics stands grows
-closed_pump s number c cursor new (reply.Refused why) traffics stands at closed grows = session_carries s new traffics stands grows
-
-closed_pump_with : {W O : Type 0} (s : System W O) (number : ℕ) (c : Connection) (cursor : Option Cursor) (now : ℕ) (traffics : Traffics) → TrafficsStand s traffics → slice_get s.connections number ≡ Some c → c.closed ≡ true → IsSoundSession s.session → TrafficsStand (pump_with s number c cursor now) traffics
-closed_pump_with s number c None now traffics stands at closed sound = stands
-closed_pump_with s number c (Some cursor) now traffics stands at closed sound = closed_pump s number c cursor (answer s.session (request.Tick now)).session _ traffics stands at closed (tick_grows s.session now sound)
+closed_pull : {W O : Type 0} (s : System W O) (number : ℕ) (c : Connection) (cursor : Option Cursor) (traffics : Traffics) → TrafficsStand s traffics → slice_get s.connections number ≡ Some c → c.closed ≡ true → TrafficsStand (with_both s number (after_joined s.session c cursor)) traffics
+closed_pull s number c None traffics stands at closed = rests (λ (x : System _ _). TrafficsStand x traffics) s number c at stands
+closed_pull s number c (Some cursor) traffics stands at closed = closed_changes s s.session number c _ traffics stands at (Grows-same s.session) closed (closed_put c.closed c.down _ closed)
 
 -- ---- Take
 
 leave_if : {W O : Type 0} (s : System W O) (number : ℕ) (c : Connection) (cursor : Cursor) (now : ℕ) (closed : Bool) (traffics : Traffics) → TrafficsStand s traffics → slice_get s.connections number ≡ Some c → c.closed ≡ closed
-    → IsSoundSession (cond closed (record { session = (answer s.session (request.Leave cursor.view cursor.joined now)).session; clients = s.clients; connections = set s.connections number (over_if true c) }) s).session
-    → TrafficsStand (cond closed (record { session = (answer s.session (request.Leave cursor.view cursor.joined now)).session; clients = s.clients; connections = set s.connections number (over_if true c) }) s) traffics
-leave_if s number c cursor now true traffics stands at is sound = closed_changes s (answer s.session (request.Leave cursor.view cursor.joined now)).session number c (over_if true c) traffics stands at (Grows-answer s.session (request.Leave cursor.view cursor.joined now) sound) is refl
-leave_if s number c cursor now false traffics stands at is sound = stands
+    → IsSoundSession (with_both s number (cond closed ((answer s.session (leave_request cursor now)).session, over_if true c) (s.session, c))).session
+    → TrafficsStand (with_both s number (cond closed ((answer s.session (leave_request cursor now)).session, over_if true c) (s.session, c))) traffics
+leave_if s number c cursor now true traffics stands at is sound = closed_changes s (answer s.session (leave_request cursor now)).session number c (over_if true c) traffics stands at (Grows-answer s.session (leave_request cursor now) sound) is refl
+leave_if s number c cursor now false traffics stands at is sound = rests (λ (x : System _ _). TrafficsStand x traffics) s number c at stands
 
-leave_carries : {W O : Type 0} (s : System W O) (number : ℕ) (c : Connection) (cursor : Option Cursor) (now : ℕ) (traffics : Traffics) → TrafficsStand s traffics → slice_get s.connections number ≡ Some c → IsSoundSession (leave_on s number c cursor now).session → TrafficsStand (leave_on s number c cursor now) traffics
-leave_carries s number c None now traffics stands at sound = stands
+leave_carries : {W O : Type 0} (s : System W O) (number : ℕ) (c : Connection) (cursor : Option Cursor) (now : ℕ) (traffics : Traffics) → TrafficsStand s traffics → slice_get s.connections number ≡ Some c → IsSoundSession (with_both s number (after_leave s.session c cursor now)).session
+    → TrafficsStand (with_both s number (after_leave s.session c cursor now)) traffics
+leave_carries s number c None now traffics stands at sound = rests (λ (x : System _ _). TrafficsStand x traffics) s number c at stands
 leave_carries s number c (Some cursor) now traffics stands at sound = leave_if s number c cursor now c.closed traffics stands at refl sound
 
 frame_carries : {W O : Type 0} (m : Worlds W O) (s : System W O) (number now : ℕ) (c : Connection) (frame : ClientFrame) (rest : List ClientFrame) (closed : Bool) (traffics : Traffics) → TrafficsStand s traffics → IsSoundSession s.session → IsSoundSession (after_step m s (Take number now)).session
@@ -334,7 +267,7 @@ frame_carries m s number now c frame rest false traffics stands old sound at is 
 frame_carries m s number now c frame rest true traffics stands old sound at is going ups =
     let row = going_row m s number now c (frame ∷ rest) at going ups in
     subst (λ (x : System _ _). TrafficsStand x (with_given traffics number frame)) (sym row)
-    (closed_take m s number c c.cursor frame rest now traffics stands at is (subst (λ (x : System _ _). IsSoundSession x.session) row sound))
+    (closed_take s number c c.cursor frame rest (heard_act (record { 0 = m.session }) c.cursor (Some frame) now) traffics stands at is (subst (λ (x : System _ _). IsSoundSession x.session) row sound))
 
 ups_carry : {W O : Type 0} (m : Worlds W O) (s : System W O) (number now : ℕ) (c : Connection) (ups : List ClientFrame) (traffics : Traffics) → TrafficsStand s traffics → IsSoundSession s.session → IsSoundSession (after_step m s (Take number now)).session
     → slice_get s.connections number ≡ Some c → c.over ≡ false → c.up ≡ ups → TrafficsStand (after_step m s (Take number now)) (given_next traffics number ups)
@@ -346,7 +279,7 @@ ups_carry m s number now c (frame ∷ rest) traffics stands old sound at going i
 take_over_carries : {W O : Type 0} (m : Worlds W O) (s : System W O) (number now : ℕ) (c : Connection) (over : Bool) (traffics : Traffics) → TrafficsStand s traffics → IsSoundSession s.session → IsSoundSession (after_step m s (Take number now)).session
     → slice_get s.connections number ≡ Some c → c.over ≡ over → TrafficsStand (after_step m s (Take number now)) (cond over traffics (given_next traffics number c.up))
 take_over_carries m s number now c true traffics stands old sound at is =
-    subst (λ (x : System _ _). TrafficsStand x traffics) (sym (ap (λ (found : Option Connection). take_on m s number found now) at ∙ true_chosen c.over s _ is)) stands
+    subst (λ (x : System _ _). TrafficsStand x traffics) (sym (over_rests m s number now c at is).0) stands
 take_over_carries m s number now c false traffics stands old sound at is = ups_carry m s number now c c.up traffics stands old sound at is refl
 
 take_carries : {W O : Type 0} (m : Worlds W O) (s : System W O) (number now : ℕ) (found : Option Connection) (traffics : Traffics) → TrafficsStand s traffics → IsSoundSession s.session → IsSoundSession (after_step m s (Take number now)).session → slice_get s.connections number ≡ found
@@ -354,21 +287,19 @@ take_carries : {W O : Type 0} (m : Worlds W O) (s : System W O) (number now : �
 take_carries m s number now None traffics stands old sound at = subst (λ (x : System _ _). TrafficsStand x traffics) (sym (ap (λ (found : Option Connection). take_on m s number found now) at)) stands
 take_carries m s number now (Some c) traffics stands old sound at = take_over_carries m s number now c c.over traffics stands old sound at refl
 
--- ---- Pump
+-- ---- Pull
 
-going_pump : {W O : Type 0} (m : Worlds W O) (s : System W O) (number now : ℕ) (c : Connection) (closed : Bool) (traffics : Traffics) → TrafficsStand s traffics → IsSoundSession s.session → slice_get s.connections number ≡ Some c → c.closed ≡ closed → c.over ≡ false → TrafficsStand (after_step m s (Pump number now)) traffics
-going_pump m s number now c false traffics stands old at is going = open_pump_carries m s number now c traffics stands old at is going
-going_pump m s number now c true traffics stands old at is going =
-    subst (λ (x : System _ _). TrafficsStand x traffics) (sym (ap (λ (found : Option Connection). pump_on s number found now) at ∙ false_chosen c.over s _ going)) (closed_pump_with s number c c.cursor now traffics stands at is old)
+going_pull : {W O : Type 0} (m : Worlds W O) (s : System W O) (number : ℕ) (c : Connection) (closed : Bool) (traffics : Traffics) → TrafficsStand s traffics → IsSoundSession s.session → slice_get s.connections number ≡ Some c → c.closed ≡ closed → c.over ≡ false → TrafficsStand (after_step m s (Pull number)) traffics
+going_pull m s number c false traffics stands old at is going = open_pull_carries m s number c traffics stands old at is going
+going_pull m s number c true traffics stands old at is going = subst (λ (x : System _ _). TrafficsStand x traffics) (sym (pull_going m s number c at going)) (closed_pull s number c c.cursor traffics stands at is)
 
-pump_over_carries : {W O : Type 0} (m : Worlds W O) (s : System W O) (number now : ℕ) (c : Connection) (over : Bool) (traffics : Traffics) → TrafficsStand s traffics → IsSoundSession s.session → slice_get s.connections number ≡ Some c → c.over ≡ over → TrafficsStand (after_step m s (Pump number now)) traffics
-pump_over_carries m s number now c true traffics stands old at is =
-    subst (λ (x : System _ _). TrafficsStand x traffics) (sym (ap (λ (found : Option Connection). pump_on s number found now) at ∙ true_chosen c.over s _ is)) stands
-pump_over_carries m s number now c false traffics stands old at is = going_pump m s number now c c.closed traffics stands old at refl is
+pull_over_carries : {W O : Type 0} (m : Worlds W O) (s : System W O) (number : ℕ) (c : Connection) (over : Bool) (traffics : Traffics) → TrafficsStand s traffics → IsSoundSession s.session → slice_get s.connections number ≡ Some c → c.over ≡ over → TrafficsStand (after_step m s (Pull number)) traffics
+pull_over_carries m s number c true traffics stands old at is = subst (λ (x : System _ _). TrafficsStand x traffics) (sym (over_rests m s number 0 c at is).1) stands
+pull_over_carries m s number c false traffics stands old at is = going_pull m s number c c.closed traffics stands old at refl is
 
-pump_carries : {W O : Type 0} (m : Worlds W O) (s : System W O) (number now : ℕ) (found : Option Connection) (traffics : Traffics) → TrafficsStand s traffics → IsSoundSession s.session → slice_get s.connections number ≡ found → TrafficsStand (after_step m s (Pump number now)) traffics
-pump_carries m s number now None traffics stands old at = subst (λ (x : System _ _). TrafficsStand x traffics) (sym (ap (λ (found : Option Connection). pump_on s number found now) at)) stands
-pump_carries m s number now (Some c) traffics stands old at = pump_over_carries m s number now c c.over traffics stands old at refl
+pull_carries : {W O : Type 0} (m : Worlds W O) (s : System W O) (number : ℕ) (found : Option Connection) (traffics : Traffics) → TrafficsStand s traffics → IsSoundSession s.session → slice_get s.connections number ≡ found → TrafficsStand (after_step m s (Pull number)) traffics
+pull_carries m s number None traffics stands old at = subst (λ (x : System _ _). TrafficsStand x traffics) (sym (ap (λ (found : Option Connection). pull_on s number found) at)) stands
+pull_carries m s number (Some c) traffics stands old at = pull_over_carries m s number c c.over traffics stands old at refl
 
 -- ---- each step, and a schedule
 
@@ -397,7 +328,8 @@ step_carries m s (Found view) traffics stands old sound = found_carries m s view
 step_carries m s (Publish view payload) traffics stands old sound = publish_carries s payload (view_client s.clients view) traffics stands
 step_carries m s (Transmit view) traffics stands old sound = transmit_by_carries s (view_client s.clients view) traffics stands
 step_carries m s (Take number now) traffics stands old sound = take_carries m s number now (slice_get s.connections number) traffics stands old sound refl
-step_carries m s (Pump number now) traffics stands old sound = pump_carries m s number now (slice_get s.connections number) traffics stands old refl
+step_carries m s (Tick now) traffics stands old sound = session_carries s (answer s.session (request.Tick now)).session traffics stands (Grows-answer s.session (request.Tick now) sound)
+step_carries m s (Pull number) traffics stands old sound = pull_carries m s number (slice_get s.connections number) traffics stands old refl
 step_carries m s (Receive view) traffics stands old sound = receive_carries m s (view_client s.clients view) traffics stands
 step_carries m s (Cut number ups downs) traffics stands old sound = cut_carries s number ups downs (slice_get s.connections number) traffics stands refl
 step_carries m s (Reconnect view how) traffics stands old sound = reconnect_carries m s how (view_client s.clients view) traffics stands

@@ -1,6 +1,6 @@
 -- Turns whose views are numbers of 32 bits keep a session sound.
 use Rattle.std.specs.Str.{bytes_eq}
-use Rattle.std.proofs.Common.{ℕ, ◌<◌, ◌^◌, Bool, true, false, cond, List, [], ◌∷◌, Option, Some, None, Ok, Err}
+use Rattle.std.proofs.Common.{ℕ, ◌<◌, ◌^◌, Bool, true, false, cond, List, [], ◌∷◌, Option, Some, None, Ok, Err, sym, subst}
 use Rattle.tea_base.specs.declared.entry.SessionId.{SessionId}
 use Rattle.wire_frames.specs.declared.frame.ClientFrame.{ClientFrame}
 use Rattle.wire_frames.specs.declared.frame.ClientFrame.TheVariants as up
@@ -17,7 +17,9 @@ use Rattle.join_sync.specs.declared.cursor.Cursor.{Cursor}
 use Rattle.join_sync.specs.declared.early.Early.TheVariants.{OtherSession}
 use Rattle.join_sync.specs.Answers.{first_cursor}
 use Rattle.join_sync.specs.Requests.{act_on, first_request}
-use Rattle.system_plain.specs.ConnectionLine.{AreSoundTurns, AreTypedTurns, ConnectionLine, Hears, IsTypedRequest, IsTypedTurn, LineTurn, Others, Pumps, after_turn, first_line, hears, hears_act, hears_first, pumps, pumps_batch}
+use Rattle.system_plain.specs.ConnectionLine.{AreSoundTurns, AreTypedTurns, ConnectionLine, Hears, IsTypedRequest, IsTypedTurn, LineTurn, Others, Pulls, after_turn, first_line, hears, pulls}
+use Rattle.system_plain.specs.Turn.{pull_request}
+use Rattle.system_plain.proofs.Turns.{hears_act, hears_first, next_same}
 
 abbrev IsTypedCursor : Option Cursor → Type 0
 IsTypedCursor None = Unit {0}
@@ -72,19 +74,9 @@ hears_typed id line None (Some frame) now sound bound typed = first_typed id lin
 hears_typed id line (Some cursor) None now sound bound typed = record { sound = sound; cursor = bound }
 hears_typed id line (Some cursor) (Some frame) now sound bound typed = acted_typed line cursor frame now sound bound
 
-batch_typed : (line : ConnectionLine) (cursor : Cursor) (new : PlainSession) (answered : Reply) → IsSoundSession new → cursor.view < 2 ^ 32 → IsTypedLine (pumps_batch line cursor new answered)
-batch_typed line cursor new (reply.Batch entries tick) sound bound = record { sound = sound; cursor = bound }
-batch_typed line cursor new (reply.Joined seq time last from base) sound bound = record { sound = sound; cursor = bound }
-batch_typed line cursor new (reply.Stamped seq time) sound bound = record { sound = sound; cursor = bound }
-batch_typed line cursor new (reply.Again seq time) sound bound = record { sound = sound; cursor = bound }
-batch_typed line cursor new (reply.Ticked time) sound bound = record { sound = sound; cursor = bound }
-batch_typed line cursor new (reply.Left seq time) sound bound = record { sound = sound; cursor = bound }
-batch_typed line cursor new reply.Kept sound bound = record { sound = sound; cursor = bound }
-batch_typed line cursor new (reply.Refused why) sound bound = record { sound = sound; cursor = bound }
-
-pumps_typed : (line : ConnectionLine) (cursor : Option Cursor) (now : ℕ) → IsTypedLine line → IsTypedCursor cursor → IsTypedLine (pumps line cursor now)
-pumps_typed line None now is bound = is
-pumps_typed line (Some cursor) now is bound = batch_typed line cursor (answer line.session (request.Tick now)).session _ (IsSoundSession-answer line.session (request.Tick now) is.sound tt) bound
+pulls_typed : (line : ConnectionLine) (cursor : Option Cursor) → IsTypedLine line → IsTypedCursor cursor → IsTypedLine (pulls line cursor)
+pulls_typed line None is bound = is
+pulls_typed line (Some cursor) is bound = record { sound = is.sound; cursor = subst (λ (view : ℕ). view < 2 ^ 32) (sym (next_same cursor (answer line.session (pull_request cursor)).reply).view) bound }
 
 typed_if : (over : Bool) (a b : ConnectionLine) → IsTypedLine a → IsTypedLine b → IsTypedLine (cond over a b)
 typed_if true a b held fell = held
@@ -92,7 +84,7 @@ typed_if false a b held fell = fell
 
 turn_typed : (id : SessionId) (line : ConnectionLine) (turn : LineTurn) → IsTypedLine line → IsTypedTurn turn → IsTypedLine (after_turn id line turn)
 turn_typed id line (Hears frame now) is typed = typed_if line.over _ _ is (hears_typed id line line.cursor frame now is.sound is.cursor typed)
-turn_typed id line (Pumps now) is typed = typed_if line.over _ _ is (pumps_typed line line.cursor now is is.cursor)
+turn_typed id line Pulls is typed = typed_if line.over _ _ is (pulls_typed line line.cursor is is.cursor)
 turn_typed id line (Others asked) is typed = record { sound = IsSoundSession-answer line.session asked is.sound (typed_is_bounded asked typed); cursor = is.cursor }
 
 turns_sound : (id : SessionId) (line : ConnectionLine) (turns : List LineTurn) → IsTypedLine line → AreTypedTurns turns → AreSoundTurns id line turns

@@ -1,4 +1,5 @@
 pub mod System
+pub mod Turn
 pub mod Steps
 pub mod Schedule
 pub mod ConnectionLine

@@ -1,5 +1,6 @@
 -- Schedules of steps, and what they say of what was published.
-use Rattle.std.specs.Prelude.{◌≡◌, ◌≤◌, ◌<◌, ◌^◌, ℕ, ◌==◌, true, ◌&&◌, if◌then◌else◌, List, [], ◌∷◌, ◌++◌, length, map, take, slice_get, Option, Some, None}
+use Rattle.std.specs.Prelude.{◌≡◌, ◌≤◌, ◌<◌, ◌^◌, ℕ, ◌==◌, Bool, true, false, ◌&&◌, if◌then◌else◌, List, [], ◌∷◌, ◌++◌, length, map, take, slice_get, Option, Some, None}
+use Rattle.std.specs.Option.{option_map_or}
 use Rattle.tea_base.specs.declared.entry.Entry.{Entry}
 use Rattle.tea_base.specs.Readings.{event_payload, last_number, view_events}
 use Rattle.tea_base.specs.Legal.{EachCountsItsEvents}
@@ -20,7 +21,7 @@ use Rattle.replica_plain.specs.Worlds.{Worlds, AreWorlds}
 use Rattle.replica_plain.specs.PlainReplica.{PlainReplica}
 use Rattle.replica_plain.specs.Taking.{taken}
 use Rattle.system_plain.specs.System.{System, Client, Connection, first_system, is_open, view_client}
-use Rattle.system_plain.specs.Steps.{SystemStep, Found, Publish, Receive, Snap, Take, after_step, can_be_made}
+use Rattle.system_plain.specs.Steps.{SystemStep, Found, Publish, Receive, Snap, Take, after_step, may_publish}
 
 -- the system after these steps
 abbrev pub run_schedule : {W O : Type 0} → Worlds W O → System W O → List SystemStep → System W O
@@ -40,7 +41,8 @@ AreTypedSteps (step ∷ steps) = IsTypedStep step × AreTypedSteps steps
 
 abbrev pub SpellsWorldOn : {W O : Type 0} → Worlds W O → Client W O → Option Connection → Type 0
 SpellsWorldOn m client None = Unit {0}
-SpellsWorldOn m client (Some c) = is_open c ≡ true → m.unsnap (m.snapshot client.replica.world) ≡ Some client.replica.world
+SpellsWorldOn m client (Some c) =
+    is_open c ≡ true → m.unsnap (m.snapshot client.replica.world) ≡ Some client.replica.world
 
 abbrev pub SpellsWorldBy : {W O : Type 0} → Worlds W O → System W O → Option (Client W O) → Type 0
 SpellsWorldBy m s None = Unit {0}
@@ -74,16 +76,22 @@ ViewPayloads = ℕ → List (List ℕ)
 abbrev pub nothing_published : ViewPayloads
 nothing_published view = []
 
--- after a step: a Publish that could be made adds its payload
+-- the view has a replica that may publish it
+abbrev pub can_publish : {W O : Type 0} → System W O → ℕ → List ℕ → Bool
+can_publish s view payload = option_map_or (λ client. may_publish client.replica payload)
+    (view_client s.clients view) false
+
+-- after a step: a Publish that publishes adds its payload
 abbrev pub published_after : {W O : Type 0} → System W O → ViewPayloads → SystemStep → ViewPayloads
 published_after s published (Publish view payload) =
-    λ other. if can_be_made s (Publish view payload) && (other == view) then published other ++ payload ∷ [] else published other
+    λ other. if can_publish s view payload && (other == view) then published other ++ payload ∷ [] else published other
 published_after s published other = published
 
 -- after a schedule
 abbrev pub published_by : {W O : Type 0} → Worlds W O → System W O → ViewPayloads → List SystemStep → ViewPayloads
 published_by m s published [] = published
-published_by m s published (step ∷ steps) = published_by m (after_step m s step) (published_after s published step) steps
+published_by m s published (step ∷ steps) =
+    published_by m (after_step m s step) (published_after s published step) steps
 
 abbrev pub published_in : {W O : Type 0} → Worlds W O → List SystemStep → ViewPayloads
 published_in m steps = published_by m first_system nothing_published steps

@@ -43,7 +43,8 @@ abbrev pub with_client : {W O : Type 0} → List (Client W O) → Client W O →
 with_client clients new = map (λ client. if client.replica.view == new.replica.view then new else client) clients
 
 abbrev pub with_replica : {W O : Type 0} → System W O → Client W O → PlainReplica W O → System W O
-with_replica s client replica = record s { clients = with_client s.clients (record { replica = replica; newest = client.newest }) }
+with_replica s client replica =
+    record s { clients = with_client s.clients (record { replica = replica; newest = client.newest }) }
 
 -- ---- connections
 

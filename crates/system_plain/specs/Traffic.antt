@@ -22,7 +22,10 @@ no_traffic number = record { given = []; received = [] }
 
 abbrev pub with_given : Traffics → ℕ → ClientFrame → Traffics
 with_given traffics number frame =
-    λ other. if other == number then record { given = (traffics other).given ++ Some frame ∷ []; received = (traffics other).received } else traffics other
+    λ other. if other == number then record {
+      given = (traffics other).given ++ Some frame ∷ [];
+      received = (traffics other).received;
+    } else traffics other
 
 -- the next frame, if there is one
 abbrev pub given_next : Traffics → ℕ → List ClientFrame → Traffics
@@ -37,7 +40,10 @@ given_on traffics number (Some c) = if c.over then traffics else given_next traf
 
 abbrev pub with_received : Traffics → ℕ → ServerFrame → Traffics
 with_received traffics number frame =
-    λ other. if other == number then record { given = (traffics other).given; received = (traffics other).received ++ frame ∷ [] } else traffics other
+    λ other. if other == number then record {
+      given = (traffics other).given;
+      received = (traffics other).received ++ frame ∷ [];
+    } else traffics other
 
 abbrev pub received_next : Traffics → ℕ → List ServerFrame → Traffics
 received_next traffics number [] = traffics

@@ -1,5 +1,5 @@
 //! What is true of a system, whatever its worlds are.
-ghost use Rattle.std.specs.Prelude.{◌≡◌, ◌≢◌, ◌≤◌, ◌+◌, ℕ, true, false, List, [], ◌∷◌, ◌++◌, Option, Some, None, Ok, Err, All, is_none, length, set, slice_get, take};
+ghost use Rattle.std.specs.Prelude.{◌≡◌, ◌≢◌, ◌≤◌, ◌+◌, ℕ, true, false, if◌then◌else◌, List, [], ◌∷◌, ◌++◌, Option, Some, None, Result, Ok, Err, All, slice_get};
 ghost use Rattle.tea_base.specs.Legal.{IsLegal};
 ghost use Rattle.tea_base.specs.Readings.{last_number};
 ghost use Rattle.tea_base.specs.declared.entry.Entry.{Entry};
@@ -12,29 +12,27 @@ ghost use Rattle.reflector_core.specs.PlainSession.{PlainSession, IsSoundSession
 ghost use Rattle.reflector_core.specs.Answer.{answer, send_event};
 ghost use Rattle.reflector_core.specs.declared.request.Refusal.{Refusal};
 ghost use Rattle.reflector_core.specs.declared.request.Refusal.TheVariants.{Stale};
-ghost use Rattle.reflector_core.specs.declared.request.Reply.TheVariants.{Batch, Left, Refused};
+ghost use Rattle.reflector_core.specs.declared.request.Reply.{Reply};
+ghost use Rattle.reflector_core.specs.declared.request.Reply.TheVariants.{Left, Refused};
 ghost use Rattle.reflector_core.specs.declared.request.Request.{Request};
-ghost use Rattle.reflector_core.specs.declared.request.Request.TheVariants.{Leave, Pull, Tick};
 ghost use Rattle.reflector_core.specs.declared.request.Request.TheVariants as request;
-ghost use Rattle.join_sync.specs.Answers.{answer_frame, first_cursor, join_answer};
-ghost use Rattle.join_sync.specs.Batches.{most_pulled, next_cursor, next_frames};
-ghost use Rattle.join_sync.specs.Refusals.{early_frame};
-ghost use Rattle.join_sync.specs.Requests.{act_on, first_request};
-ghost use Rattle.join_sync.specs.declared.act.Act.TheVariants.{Answer, Call};
+ghost use Rattle.join_sync.specs.Requests.{act_on};
+ghost use Rattle.join_sync.specs.declared.act.Act.TheVariants.{Call};
 ghost use Rattle.join_sync.specs.declared.cursor.Cursor.{Cursor};
-ghost use Rattle.join_sync.specs.declared.early.Early.{Early};
 ghost use Rattle.replica_plain.specs.Worlds.{Worlds, AreWorlds, replay_world};
-ghost use Rattle.replica_plain.specs.Calls.{Publishes, gives, join_frame, joining, loses, publishes, snap_frame, unsent};
-ghost use Rattle.replica_plain.specs.PlainReplica.{PlainReplica, new_replica, published_count};
+ghost use Rattle.replica_plain.specs.Calls.{Publishes, publishes};
+ghost use Rattle.replica_plain.specs.PlainReplica.{PlainReplica, published_count};
 ghost use Rattle.replica_plain.specs.Taking.{taken, IsTimely};
-ghost use Rattle.replica_plain.specs.declared.how.How.{How};
-ghost use Rattle.replica_plain.specs.declared.how.How.TheVariants.{Fresh, Resume, Whole};
+ghost use Rattle.replica_plain.specs.declared.fault.PublishRefusal.{PublishRefusal};
+ghost use Rattle.replica_plain.specs.declared.fault.PublishRefusal.TheVariants.{WantOfMemory};
+ghost use Rattle.replica_plain.specs.declared.how.How.TheVariants.{Resume, Whole};
 ghost use Rattle.replica_plain.specs.Following.{FollowsLog, IsHonestBase};
-ghost use Rattle.system_plain.specs.System.{Client, Connection, System, close, closing, connecting, is_open, over_if, put_down, view_client, with_client, with_connection, with_cursor, with_down, with_replica, with_up};
-ghost use Rattle.system_plain.specs.Steps.{SystemStep, answer_frames, ends_connection, Cut, Found, Publish, Pump, Receive, Reconnect, Restart, Snap, Take, Transmit, after_step, asked_connection, can_be_made, joined_connection, joined_view, may_publish, whole_for};
+ghost use Rattle.system_plain.specs.System.{Client, Connection, System, view_client, with_client};
+ghost use Rattle.system_plain.specs.Turn.{ask_told, join_told};
+ghost use Rattle.system_plain.specs.Steps.{SystemStep, Pull, Receive, Restart, Take, Tick, after_step, may_publish, told_connection};
 ghost use Rattle.system_plain.specs.Schedule.{AreTypedSteps, HasEventsOnce, IsExpected, IsTypedStep, ViewPayloads, IsNoSurprise, IsNotDiffers, IsSchedule, SpellWorlds, SpellsWorld, after_schedule, faults_from, faults_in, faults_of, next_fault, published_after, published_by, published_in, step_replies_from, replies_in, run_schedule, step_faults, step_replies};
 ghost use Rattle.system_plain.specs.Traffic.{Traffics, traffics_after, traffics_by, traffics_in};
-ghost use Rattle.system_plain.specs.ConnectionLine.{AreSoundTurns, AreTypedTurns, Hears, LineTurn, Pumps, after_turn, after_turns, first_line, line_on, open_connection, with_line};
+ghost use Rattle.system_plain.specs.ConnectionLine.{AreSoundTurns, AreTypedTurns, Hears, LineTurn, Others, Pulls, after_turn, after_turns, first_line, line_on, open_connection, with_line};
 
 /// However joins, cuts, resends, restarts and snapshots fall: after every schedule the log is legal; each replica follows it and has
 /// seen the entries of its time, and one that is at rest has the replay of the log to its time; two replicas of one time that are at
@@ -45,50 +43,71 @@ ghost use Rattle.system_plain.specs.ConnectionLine.{AreSoundTurns, AreTypedTurns
 /// W is any type of worlds, O what their models publish. Two things are asked of a list of steps: each view is below 2^32, and each
 /// snapshot that it sends is read again as the world it was made of.
 pub fn every_schedule<W, O>()
-    ensures legal_log { (m : Worlds W O) (steps : List SystemStep) → IsSchedule m steps → IsLegal (after_schedule m steps).session.log }
-    ensures replicas_follow { (m : Worlds W O) (steps : List SystemStep) (view : ℕ) (client : Client W O) → IsSchedule m steps
-        → view_client (after_schedule m steps).clients view ≡ Some client → FollowsLog m (after_schedule m steps).session.log client.replica }
-    ensures replicas_replay { (m : Worlds W O) (steps : List SystemStep) (view : ℕ) (client : Client W O) → IsSchedule m steps
+    ensures legal_log { (m : Worlds W O) (steps : List SystemStep) → IsSchedule m steps
+        → IsLegal (after_schedule m steps).session.log }
+    ensures replicas_follow { (m : Worlds W O) (steps : List SystemStep) (view : ℕ) (client : Client W O)
+        → IsSchedule m steps
+        → view_client (after_schedule m steps).clients view ≡ Some client
+        → FollowsLog m (after_schedule m steps).session.log client.replica }
+    ensures replicas_replay { (m : Worlds W O) (steps : List SystemStep) (view : ℕ) (client : Client W O)
+        → IsSchedule m steps
         → view_client (after_schedule m steps).clients view ≡ Some client → m.at_rest client.replica.world ≡ true
         → client.replica.world ≡ replay_world m (after_schedule m steps).session.log (m.time client.replica.world) }
-    ensures equal_snapshots { (m : Worlds W O) (steps : List SystemStep) (view other : ℕ) (one two : Client W O) → IsSchedule m steps
-        → view_client (after_schedule m steps).clients view ≡ Some one → view_client (after_schedule m steps).clients other ≡ Some two
-        → m.at_rest one.replica.world ≡ true → m.at_rest two.replica.world ≡ true → m.time one.replica.world ≡ m.time two.replica.world
+    ensures equal_snapshots { (m : Worlds W O) (steps : List SystemStep) (view other : ℕ) (one two : Client W O)
+        → IsSchedule m steps
+        → view_client (after_schedule m steps).clients view ≡ Some one
+        → view_client (after_schedule m steps).clients other ≡ Some two
+        → m.at_rest one.replica.world ≡ true → m.at_rest two.replica.world ≡ true
+        → m.time one.replica.world ≡ m.time two.replica.world
         → m.snapshot one.replica.world ≡ m.snapshot two.replica.world }
     ensures kept_is_honest { (m : Worlds W O) (steps : List SystemStep) → IsSchedule m steps
         → IsHonestBase m (after_schedule m steps).session.log (after_schedule m steps).session.kept }
     ensures events_once { (m : Worlds W O) (steps : List SystemStep) → IsSchedule m steps
         → HasEventsOnce (after_schedule m steps).session.log (published_in m steps) }
-    ensures acknowledged { (m : Worlds W O) (steps : List SystemStep) (view : ℕ) (client : Client W O) → IsSchedule m steps
+    ensures acknowledged { (m : Worlds W O) (steps : List SystemStep) (view : ℕ) (client : Client W O)
+        → IsSchedule m steps
         → view_client (after_schedule m steps).clients view ≡ Some client
         → client.replica.acknowledged ≤ last_number (after_schedule m steps).session.log view }
-    ensures no_surprise { (m : Worlds W O) (steps : List SystemStep) (view : ℕ) (client : Client W O) → IsSchedule m steps
-        → view_client (after_schedule m steps).clients view ≡ Some client → IsNoSurprise (next_fault m (after_schedule m steps) client) }
-    ensures no_differs { (m : Worlds W O) (steps : List SystemStep) (connection : ℕ) (c : Connection) (cursor : Cursor) (number : ℕ) (payload : List ℕ) (rest : List ClientFrame) (now : ℕ) → IsSchedule m steps
-        → slice_get (after_schedule m steps).connections connection ≡ Some c → c.cursor ≡ Some cursor → c.up ≡ Send number payload ∷ rest
-        → IsNotDiffers (send_event (after_schedule m steps).session cursor.view cursor.joined number payload now).reply }
-    ensures sound { (m : Worlds W O) (steps : List SystemStep) → IsSchedule m steps → IsSoundSession (after_schedule m steps).session }
+    ensures no_surprise { (m : Worlds W O) (steps : List SystemStep) (view : ℕ) (client : Client W O)
+        → IsSchedule m steps
+        → view_client (after_schedule m steps).clients view ≡ Some client
+        → IsNoSurprise (next_fault m (after_schedule m steps) client) }
+    ensures no_differs { (m : Worlds W O) (steps : List SystemStep) (connection : ℕ) (c : Connection) (cursor : Cursor)
+        (number : ℕ) (payload : List ℕ) (rest : List ClientFrame) (now : ℕ) → IsSchedule m steps
+        → slice_get (after_schedule m steps).connections connection ≡ Some c → c.cursor ≡ Some cursor
+        → c.up ≡ Send number payload ∷ rest
+        → IsNotDiffers (send_event (after_schedule m steps).session cursor.view cursor.joined number payload
+        now).reply }
+    ensures sound { (m : Worlds W O) (steps : List SystemStep) → IsSchedule m steps
+        → IsSoundSession (after_schedule m steps).session }
 {}
 
 /// A schedule may be run in parts. Where the snapshot of each valid world spells it, each list of steps over 32-bit views is one.
 pub fn schedules_in_parts<W, O>()
     ensures runs { (m : Worlds W O) (s : System W O) (steps : List SystemStep) (step : SystemStep)
         → run_schedule m s (steps ++ step ∷ []) ≡ after_step m (run_schedule m s steps) step }
-    ensures publishes { (m : Worlds W O) (s : System W O) (published : ViewPayloads) (steps : List SystemStep) (step : SystemStep)
-        → published_by m s published (steps ++ step ∷ []) ≡ published_after (run_schedule m s steps) (published_by m s published steps) step }
-    ensures carries { (m : Worlds W O) (s : System W O) (traffics : Traffics) (steps : List SystemStep) (step : SystemStep)
-        → traffics_by m s traffics (steps ++ step ∷ []) ≡ traffics_after (run_schedule m s steps) (traffics_by m s traffics steps) step }
+    ensures publishes { (m : Worlds W O) (s : System W O) (published : ViewPayloads) (steps : List SystemStep)
+        (step : SystemStep)
+        → published_by m s published (steps ++ step ∷ [])
+        ≡ published_after (run_schedule m s steps) (published_by m s published steps) step }
+    ensures carries { (m : Worlds W O) (s : System W O) (traffics : Traffics) (steps : List SystemStep)
+        (step : SystemStep)
+        → traffics_by m s traffics (steps ++ step ∷ [])
+        ≡ traffics_after (run_schedule m s steps) (traffics_by m s traffics steps) step }
     ensures spells { (m : Worlds W O) (s : System W O) (steps : List SystemStep) (step : SystemStep)
         → SpellWorlds m s steps → SpellsWorld m (run_schedule m s steps) step → SpellWorlds m s (steps ++ step ∷ []) }
-    ensures all { (m : Worlds W O) (steps : List SystemStep) → AreWorlds m → ((w : W) → m.valid w ≡ true → m.unsnap (m.snapshot w) ≡ Some w)
+    ensures all { (m : Worlds W O) (steps : List SystemStep) → AreWorlds m
+        → ((w : W) → m.valid w ≡ true → m.unsnap (m.snapshot w) ≡ Some w)
         → AreTypedSteps steps → IsSchedule m steps }
 {}
 
 /// Each connection is served by the log, be it open, cut or over: what its replica received by it and what is in flight to it, beside
 /// the frames of it that were taken. What a cut lost is the end of what it was sent.
 pub fn connections_are_served<W, O>()
-    ensures { (m : Worlds W O) (steps : List SystemStep) (number : ℕ) (c : Connection) → IsSchedule m steps → slice_get (after_schedule m steps).connections number ≡ Some c
-        → Served (after_schedule m steps).session.log (traffics_in m steps number).given ((traffics_in m steps number).received ++ c.down) }
+    ensures { (m : Worlds W O) (steps : List SystemStep) (number : ℕ) (c : Connection) → IsSchedule m steps
+        → slice_get (after_schedule m steps).connections number ≡ Some c
+        → Served (after_schedule m steps).session.log (traffics_in m steps number).given
+        ((traffics_in m steps number).received ++ c.down) }
 {}
 
 /// Whatever one connection hears, whenever it sends what is new, and whatever others ask of its session between: what it was sent is
@@ -96,139 +115,132 @@ pub fn connections_are_served<W, O>()
 /// before the first one and each view is a number of 32 bits.
 pub fn line_is_served()
     ensures served { (id : SessionId) (s : PlainSession) (turns : List LineTurn) → AreSoundTurns id (first_line s) turns
-        → Served (after_turns id (first_line s) turns).session.log (after_turns id (first_line s) turns).given (after_turns id (first_line s) turns).sent }
-    ensures sound { (id : SessionId) (s : PlainSession) (turns : List LineTurn) → IsSoundSession s → AreTypedTurns turns → AreSoundTurns id (first_line s) turns }
+        → Served (after_turns id (first_line s) turns).session.log (after_turns id (first_line s) turns).given
+        (after_turns id (first_line s) turns).sent }
+    ensures sound { (id : SessionId) (s : PlainSession) (turns : List LineTurn) → IsSoundSession s → AreTypedTurns turns
+        → AreSoundTurns id (first_line s) turns }
 {}
 
-/// An open connection of a system does what a line does: its Take hears the next frame, and its Pump sends what is new.
+/// An open connection of a system does what a line does: its Take hears the next frame, its Pull sends what is new, and a Tick is one
+/// of the requests that tell it nothing.
 pub fn connection_is_line<W, O>()
-    ensures takes { (m : Worlds W O) (s : System W O) (number view now : ℕ) (cursor : Option Cursor) (given : List (Option ClientFrame)) (frame : ClientFrame) (rest : List ClientFrame) (sent : List ServerFrame)
-        → slice_get s.connections number ≡ Some (open_connection view (frame ∷ rest) (line_on s.session cursor given sent))
-        → after_step m s (Take number now) ≡ with_line s number view rest (after_turn (record { 0 = m.session }) (line_on s.session cursor given sent) (Hears (Some frame) now)) }
-    ensures pumps { (m : Worlds W O) (s : System W O) (number view now : ℕ) (cursor : Option Cursor) (given : List (Option ClientFrame)) (up : List ClientFrame) (sent : List ServerFrame)
+    ensures takes { (m : Worlds W O) (s : System W O) (number view now : ℕ) (cursor : Option Cursor)
+        (given : List (Option ClientFrame)) (frame : ClientFrame) (rest : List ClientFrame) (sent : List ServerFrame)
+        → slice_get s.connections number
+        ≡ Some (open_connection view (frame ∷ rest) (line_on s.session cursor given sent))
+        → after_step m s (Take number now)
+        ≡ with_line s number view rest (after_turn (record { 0 = m.session }) (line_on s.session cursor given sent)
+        (Hears (Some frame) now)) }
+    ensures ticks { (m : Worlds W O) (s : System W O) (number view now : ℕ) (cursor : Option Cursor)
+        (given : List (Option ClientFrame)) (up : List ClientFrame) (sent : List ServerFrame)
         → slice_get s.connections number ≡ Some (open_connection view up (line_on s.session cursor given sent))
-        → after_step m s (Pump number now) ≡ with_line s number view up (after_turn (record { 0 = m.session }) (line_on s.session cursor given sent) (Pumps now)) }
+        → after_step m s (Tick now)
+        ≡ with_line s number view up (after_turn (record { 0 = m.session }) (line_on s.session cursor given sent)
+        (Others (request.Tick now))) }
+    ensures pulls { (m : Worlds W O) (s : System W O) (number view : ℕ) (cursor : Option Cursor)
+        (given : List (Option ClientFrame)) (up : List ClientFrame) (sent : List ServerFrame)
+        → slice_get s.connections number ≡ Some (open_connection view up (line_on s.session cursor given sent))
+        → after_step m s (Pull number)
+        ≡ with_line s number view up
+        (after_turn (record { 0 = m.session }) (line_on s.session cursor given sent) Pulls) }
 {}
 
-/// What each step does where it can be made, and that it changes nothing where it cannot.
-pub fn step_table<W, O>()
-    ensures unmade { (m : Worlds W O) (s : System W O) (step : SystemStep) → can_be_made s step ≡ false → after_step m s step ≡ s }
-    ensures founds { (m : Worlds W O) (s : System W O) (view : ℕ) → view ≢ 0 → view_client s.clients view ≡ None
-        → after_step m s (Found view) ≡ record s {
-          clients = s.clients ++ record { replica = joining (new_replica m view) Fresh; newest = length s.connections } ∷ [];
-          connections = s.connections ++ connecting view (join_frame m (new_replica m view) Fresh) ∷ [];
-        } }
-    ensures publishes { (m : Worlds W O) (s : System W O) (view : ℕ) (payload : List ℕ) (client : Client W O) → view_client s.clients view ≡ Some client
-        → may_publish client.replica payload ≡ true → after_step m s (Publish view payload) ≡ with_replica s client (publishes client.replica payload) }
-    ensures transmits { (m : Worlds W O) (s : System W O) (view : ℕ) (client : Client W O) (c : Connection) → view_client s.clients view ≡ Some client
-        → slice_get s.connections client.newest ≡ Some c → is_open c ≡ true
-        → after_step m s (Transmit view) ≡ with_connection (with_replica s client (gives client.replica)) client.newest (with_up c (c.up ++ unsent client.replica)) }
-    // The first frame of a connection.
-    ensures takes_join { (m : Worlds W O) (s : System W O) (number now : ℕ) (c : Connection) (frame : ClientFrame) (rest : List ClientFrame) (request : Request)
-        → slice_get s.connections number ≡ Some c → c.over ≡ false → c.cursor ≡ None → c.up ≡ frame ∷ rest → first_request frame (record { 0 = m.session }) now ≡ Ok request
-        → after_step m s (Take number now) ≡ record {
-          session = (answer s.session request).session;
-          clients = s.clients;
-          connections = set s.connections number (over_if (is_none (first_cursor (joined_view request) (answer s.session request).reply)) (put_down (with_cursor (with_up c rest) (first_cursor (joined_view request) (answer s.session request).reply)) (answer_frames (join_answer (answer s.session request).reply))));
-        } }
-    ensures takes_early { (m : Worlds W O) (s : System W O) (number now : ℕ) (c : Connection) (frame : ClientFrame) (rest : List ClientFrame) (early : Early)
-        → slice_get s.connections number ≡ Some c → c.over ≡ false → c.cursor ≡ None → c.up ≡ frame ∷ rest → first_request frame (record { 0 = m.session }) now ≡ Err early
-        → after_step m s (Take number now) ≡ with_connection s number (over_if true (put_down (with_up c rest) (early_frame early frame ∷ []))) }
-    // A later frame.
-    ensures takes_request { (m : Worlds W O) (s : System W O) (number now : ℕ) (c : Connection) (cursor : Cursor) (frame : ClientFrame) (rest : List ClientFrame) (request : Request)
-        → slice_get s.connections number ≡ Some c → c.over ≡ false → c.cursor ≡ Some cursor → c.up ≡ frame ∷ rest → act_on cursor frame now ≡ Call request
-        → after_step m s (Take number now) ≡ record {
-          session = (answer s.session request).session;
-          clients = s.clients;
-          connections = set s.connections number (over_if (ends_connection (answer s.session request).reply) (put_down (with_up c rest) (answer_frames (answer_frame request (answer s.session request).reply))));
-        } }
-    ensures takes_other { (m : Worlds W O) (s : System W O) (number now : ℕ) (c : Connection) (cursor : Cursor) (frame : ClientFrame) (rest : List ClientFrame) (given : ServerFrame)
-        → slice_get s.connections number ≡ Some c → c.over ≡ false → c.cursor ≡ Some cursor → c.up ≡ frame ∷ rest → act_on cursor frame now ≡ Answer given
-        → after_step m s (Take number now) ≡ with_connection s number (put_down (with_up c rest) (given ∷ [])) }
-    // No frame will come any more.
-    ensures takes_leave { (m : Worlds W O) (s : System W O) (number now : ℕ) (c : Connection) (cursor : Cursor)
-        → slice_get s.connections number ≡ Some c → c.over ≡ false → c.cursor ≡ Some cursor → c.up ≡ [] → c.closed ≡ true
-        → after_step m s (Take number now) ≡ record {
-          session = (answer s.session (Leave cursor.view cursor.joined now)).session;
-          clients = s.clients;
-          connections = set s.connections number (over_if true c);
-        } }
-    ensures pumps { (m : Worlds W O) (s : System W O) (number now : ℕ) (c : Connection) (cursor : Cursor) (entries : List Entry) (tick : Option ℕ)
-        → slice_get s.connections number ≡ Some c → c.over ≡ false → c.cursor ≡ Some cursor
-        → (answer (answer s.session (Tick now)).session (Pull cursor.after most_pulled)).reply ≡ Batch entries tick
-        → after_step m s (Pump number now) ≡ record {
-          session = (answer s.session (Tick now)).session;
-          clients = s.clients;
-          connections = set s.connections number (put_down (with_cursor c (Some (next_cursor cursor (Batch entries tick)))) (next_frames cursor (Batch entries tick)));
-        } }
-    ensures pumps_nothing { (m : Worlds W O) (s : System W O) (number now : ℕ) (c : Connection) (cursor : Cursor) (refusal : Refusal)
-        → slice_get s.connections number ≡ Some c → c.over ≡ false → c.cursor ≡ Some cursor
-        → (answer (answer s.session (Tick now)).session (Pull cursor.after most_pulled)).reply ≡ Refused refusal
-        → after_step m s (Pump number now) ≡ record s { session = (answer s.session (Tick now)).session } }
-    ensures receives { (m : Worlds W O) (s : System W O) (view : ℕ) (client : Client W O) (c : Connection) (frame : ServerFrame) (rest : List ServerFrame) → view_client s.clients view ≡ Some client
-        → slice_get s.connections client.newest ≡ Some c → c.down ≡ frame ∷ rest
-        → after_step m s (Receive view) ≡ with_connection (with_replica s client (taken m client.replica frame).replica) client.newest (with_down c rest) }
-    ensures cuts { (m : Worlds W O) (s : System W O) (number up down : ℕ) (c : Connection) → slice_get s.connections number ≡ Some c
-        → after_step m s (Cut number up down) ≡ with_connection s number (closing (with_down (with_up c (take up c.up)) (take down c.down))) }
-    // The new connection has the next number, and the one before it is closed.
-    ensures reconnects { (m : Worlds W O) (s : System W O) (view : ℕ) (how : How) (client : Client W O) → view_client s.clients view ≡ Some client
-        → after_step m s (Reconnect view how) ≡ record {
-          session = s.session;
-          clients = with_client s.clients (record { replica = joining client.replica how; newest = length s.connections });
-          connections = close s.connections client.newest ++ connecting client.replica.view (join_frame m client.replica how) ∷ [];
-        } }
-    ensures restarts { (m : Worlds W O) (s : System W O) (view : ℕ) (how : How) (client : Client W O) → view_client s.clients view ≡ Some client
-        → after_step m s (Restart view how) ≡ record {
-          session = s.session;
-          clients = with_client s.clients (record { replica = joining (loses m client.replica) (whole_for how); newest = length s.connections });
-          connections = close s.connections client.newest ++ connecting client.replica.view (join_frame m (loses m client.replica) (whole_for how)) ∷ [];
-        } }
-    ensures snaps { (m : Worlds W O) (s : System W O) (view : ℕ) (client : Client W O) (c : Connection) → view_client s.clients view ≡ Some client
-        → slice_get s.connections client.newest ≡ Some c → is_open c ≡ true
-        → after_step m s (Snap view) ≡ with_connection s client.newest (with_up c (c.up ++ snap_frame m client.replica ∷ [])) }
-{}
-
-/// A step that publishes can be made exactly where the replica publishes. A view that asks to go on from a world that was lost joins
-/// for the whole log. A connection ends whose join was refused, or whose view left or joined by another one.
+/// A step that publishes changes a replica exactly where the replica publishes. A view that asks to go on from a world that was lost joins
+/// for the whole log. A connection ends whose join was refused. One that has joined ends by two replies alone: that its view left, and
+/// that it joined again by another one.
 pub fn steps_in_words<W, O>()
-    ensures may_publish { (r new : PlainReplica W O) (payload : List ℕ) → may_publish r payload ≡ true → Publishes (Ok (published_count r + 1)) r (publishes r payload) payload }
-    ensures may_not { (r new : PlainReplica W O) (payload : List ℕ) (number : ℕ) → may_publish r payload ≡ false → Publishes (Ok number) r new payload → ⊥ }
-    ensures lost { (m : Worlds W O) (s : System W O) (view : ℕ) → after_step m s (Restart view Resume) ≡ after_step m s (Restart view Whole) }
-    ensures refused { (c : Connection) (view : ℕ) (refusal : Refusal) → (joined_connection c view (Refused refusal)).over ≡ true }
-    ensures stale { (c : Connection) (request : Request) (current : ℕ) → (asked_connection c request (Refused (Stale current))).over ≡ true }
-    ensures left { (c : Connection) (request : Request) (seq time : ℕ) → (asked_connection c request (Left seq time)).over ≡ true }
+    ensures may_publish { (r new : PlainReplica W O) (payload : List ℕ) → may_publish r payload ≡ true
+        → Publishes (Ok (published_count r + 1)) r (publishes r payload) payload }
+    ensures may_not { (r new : PlainReplica W O) (payload : List ℕ) (number : ℕ) → may_publish r payload ≡ false
+        → Publishes (Ok number) r new payload → ⊥ }
+    ensures lost { (m : Worlds W O) (s : System W O) (view : ℕ)
+        → after_step m s (Restart view Resume) ≡ after_step m s (Restart view Whole) }
+    ensures refused { (c : Connection) (request : Request) (refusal : Refusal)
+        → (told_connection c (join_told request (Refused refusal))).over ≡ true }
+    ensures stale { (c : Connection) (cursor : Cursor) (request : Request) (current : ℕ)
+        → (told_connection c (ask_told cursor request (Refused (Stale current)))).over ≡ true }
+    ensures left { (c : Connection) (cursor : Cursor) (request : Request) (seq time : ℕ)
+        → (told_connection c (ask_told cursor request (Left seq time))).over ≡ true }
+    ensures stays { (c : Connection) (cursor : Cursor) (request : Request) (reply : Reply)
+        → ((seq time : ℕ) → reply ≡ Left seq time → ⊥) → ((current : ℕ) → reply ≡ Refused (Stale current) → ⊥)
+        → (told_connection c (ask_told cursor request reply)).over ≡ c.over }
+{}
+
+/// A replica that publishes with memory enough does so exactly where a step may.
+pub fn publication_is_decided<W, O>()
+    ensures { (result : Result ℕ PublishRefusal) (r new : PlainReplica W O) (payload : List ℕ)
+        → (result ≡ Err WantOfMemory → ⊥) → Publishes result r new payload
+        → new ≡ (if may_publish r payload then publishes r payload else r) }
+{}
+
+/// A Take and a Pull put back what they leave of a connection. They change nothing where the connection is over, where a Pull finds it
+/// not joined, and where a Take finds no frame, unless it is closed and its view has to leave.
+pub fn steps_that_rest<W, O>()
+    ensures over { (m : Worlds W O) (s : System W O) (number now : ℕ) (c : Connection)
+        → slice_get s.connections number ≡ Some c → c.over ≡ true
+        → (after_step m s (Take number now) ≡ s) × (after_step m s (Pull number) ≡ s) }
+    ensures no_pull { (m : Worlds W O) (s : System W O) (number : ℕ) (c : Connection)
+        → slice_get s.connections number ≡ Some c → c.cursor ≡ None → after_step m s (Pull number) ≡ s }
+    ensures no_take { (m : Worlds W O) (s : System W O) (number now : ℕ) (c : Connection)
+        → slice_get s.connections number ≡ Some c → c.up ≡ [] → c.closed ≡ false
+        → after_step m s (Take number now) ≡ s }
+    ensures no_leave { (m : Worlds W O) (s : System W O) (number now : ℕ) (c : Connection)
+        → slice_get s.connections number ≡ Some c → c.up ≡ [] → c.cursor ≡ None → after_step m s (Take number now) ≡ s }
+{}
+
+/// A client that is put in place of the one of its view is found by this view, and the others as before.
+pub fn clients_are_found<W, O>()
+    ensures replaced { (clients : List (Client W O)) (new old : Client W O) (view : ℕ)
+        → view_client clients view ≡ Some old → new.replica.view ≡ view
+        → view_client (with_client clients new) view ≡ Some new }
+    ensures others { (clients : List (Client W O)) (new : Client W O) (other : ℕ) → other ≢ new.replica.view
+        → view_client (with_client clients new) other ≡ view_client clients other }
 {}
 
 /// The whole of a schedule: no fault of a frame that a replica received is a surprise, and no request of a joined connection is answered
 /// that its event was sent before with another payload; nor will the next Send be.
 pub fn whole_schedules<W, O>()
-    ensures no_surprise { (m : Worlds W O) (steps : List SystemStep) → IsSchedule m steps → All IsExpected (faults_in m steps) }
-    ensures no_differs { (m : Worlds W O) (steps : List SystemStep) → IsSchedule m steps → All IsNotDiffers (replies_in m steps) }
-    ensures next_send { (m : Worlds W O) (steps : List SystemStep) (connection : ℕ) (c : Connection) (cursor : Cursor) (number : ℕ) (payload : List ℕ) (rest : List ClientFrame) (now : ℕ) → IsSchedule m steps
-        → slice_get (after_schedule m steps).connections connection ≡ Some c → c.cursor ≡ Some cursor → c.up ≡ Send number payload ∷ rest
-        → IsNotDiffers (answer (after_schedule m steps).session (request.Send cursor.view cursor.joined number payload now)).reply }
+    ensures no_surprise { (m : Worlds W O) (steps : List SystemStep) → IsSchedule m steps
+        → All IsExpected (faults_in m steps) }
+    ensures no_differs { (m : Worlds W O) (steps : List SystemStep) → IsSchedule m steps
+        → All IsNotDiffers (replies_in m steps) }
+    ensures next_send { (m : Worlds W O) (steps : List SystemStep) (connection : ℕ) (c : Connection) (cursor : Cursor)
+        (number : ℕ) (payload : List ℕ) (rest : List ClientFrame) (now : ℕ) → IsSchedule m steps
+        → slice_get (after_schedule m steps).connections connection ≡ Some c → c.cursor ≡ Some cursor
+        → c.up ≡ Send number payload ∷ rest
+        → IsNotDiffers (answer (after_schedule m steps).session
+        (request.Send cursor.view cursor.joined number payload now)).reply }
     // The lists are of what each step met and was told.
-    ensures met { (m : Worlds W O) (s : System W O) (view : ℕ) (client : Client W O) (c : Connection) (frame : ServerFrame) (rest : List ServerFrame) → view_client s.clients view ≡ Some client
-        → slice_get s.connections client.newest ≡ Some c → c.down ≡ frame ∷ rest → step_faults m s (Receive view) ≡ faults_of (taken m client.replica frame).fault }
-    ensures told { (s : System W O) (number now : ℕ) (c : Connection) (cursor : Cursor) (frame : ClientFrame) (rest : List ClientFrame) (request : Request)
-        → slice_get s.connections number ≡ Some c → c.over ≡ false → c.cursor ≡ Some cursor → c.up ≡ frame ∷ rest → act_on cursor frame now ≡ Call request
+    ensures met { (m : Worlds W O) (s : System W O) (view : ℕ) (client : Client W O) (c : Connection)
+        (frame : ServerFrame) (rest : List ServerFrame) → view_client s.clients view ≡ Some client
+        → slice_get s.connections client.newest ≡ Some c → c.down ≡ frame ∷ rest
+        → step_faults m s (Receive view) ≡ faults_of (taken m client.replica frame).fault }
+    ensures told { (s : System W O) (number now : ℕ) (c : Connection) (cursor : Cursor) (frame : ClientFrame)
+        (rest : List ClientFrame) (request : Request)
+        → slice_get s.connections number ≡ Some c → c.over ≡ false → c.cursor ≡ Some cursor → c.up ≡ frame ∷ rest
+        → act_on cursor frame now ≡ Call request
         → step_replies s (Take number now) ≡ (answer s.session request).reply ∷ [] }
     ensures faults { (m : Worlds W O) (s : System W O) (steps : List SystemStep) (step : SystemStep)
         → faults_from m s (steps ++ step ∷ []) ≡ faults_from m s steps ++ step_faults m (run_schedule m s steps) step }
     ensures replies { (m : Worlds W O) (s : System W O) (steps : List SystemStep) (step : SystemStep)
-        → step_replies_from m s (steps ++ step ∷ []) ≡ step_replies_from m s steps ++ step_replies (run_schedule m s steps) step }
+        → step_replies_from m s (steps ++ step ∷ []) ≡ step_replies_from m s steps
+        ++ step_replies (run_schedule m s steps) step }
 {}
 
 /// A schedule with one more step is one, where the step's view is a number of 32 bits and a snapshot that it sends spells its world.
 pub fn schedules_grow<W, O>()
-    ensures { (m : Worlds W O) (steps : List SystemStep) (step : SystemStep) → IsSchedule m steps → IsTypedStep step → SpellsWorld m (after_schedule m steps) step → IsSchedule m (steps ++ step ∷ []) }
+    ensures { (m : Worlds W O) (steps : List SystemStep) (step : SystemStep) → IsSchedule m steps → IsTypedStep step
+        → SpellsWorld m (after_schedule m steps) step → IsSchedule m (steps ++ step ∷ []) }
 {}
 
 /// The times of entries and ticks are those of TeaTime, below 2^53: in what a legal log serves, and so in what is in flight on each
 /// connection after every schedule.
 pub fn frames_move_in_time<W, O>()
-    ensures served { (log : List Entry) (given : List (Option ClientFrame)) (frames : List ServerFrame) → IsLegal log → Served log given frames → All IsTimely frames }
-    ensures in_flight { (m : Worlds W O) (steps : List SystemStep) (number : ℕ) (c : Connection) → IsSchedule m steps → slice_get (after_schedule m steps).connections number ≡ Some c → All IsTimely c.down }
-    ensures next { (m : Worlds W O) (steps : List SystemStep) (number : ℕ) (c : Connection) (frame : ServerFrame) (rest : List ServerFrame) → IsSchedule m steps
+    ensures served { (log : List Entry) (given : List (Option ClientFrame)) (frames : List ServerFrame) → IsLegal log
+        → Served log given frames → All IsTimely frames }
+    ensures in_flight { (m : Worlds W O) (steps : List SystemStep) (number : ℕ) (c : Connection) → IsSchedule m steps
+        → slice_get (after_schedule m steps).connections number ≡ Some c → All IsTimely c.down }
+    ensures next { (m : Worlds W O) (steps : List SystemStep) (number : ℕ) (c : Connection) (frame : ServerFrame)
+        (rest : List ServerFrame) → IsSchedule m steps
         → slice_get (after_schedule m steps).connections number ≡ Some c → c.down ≡ frame ∷ rest → IsTimely frame }
 {}

@@ -3,11 +3,9 @@
 #![tactic(auto)]
 
 mod laws;
-mod rows;
 
 pub use laws::{
-    connection_is_line, connections_are_served, every_schedule, frames_move_in_time,
-    line_is_served, schedules_grow, schedules_in_parts, step_table, steps_in_words,
-    whole_schedules,
+    clients_are_found, connection_is_line, connections_are_served, every_schedule,
+    frames_move_in_time, line_is_served, publication_is_decided, schedules_grow,
+    schedules_in_parts, steps_in_words, steps_that_rest, whole_schedules,
 };
-pub use rows::{connections_end, publication_is_decided, steps_spelled_out, steps_that_rest};

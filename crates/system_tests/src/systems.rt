@@ -16,6 +16,7 @@ use system_core::{Schedule, StepFault, System};
 use tea_base::{Blob, Entry, SessionId, TIME_LIMIT, WantOfMemory, What};
 use world::World;
 
+/// The session of each of these systems.
 pub(crate) const ID: SessionId = SessionId([7; 32]);
 
 /// A program, and a system that runs it.

@@ -11,7 +11,8 @@ abbrev pub LogAllows : List Entry → ℕ → What → Type 0
 LogAllows log view Join = (is_here log view ≡ false → here_count log < most_here) × (length log < most_open_entries)
 LogAllows log view Exit = (is_here log view ≡ true) × (length log < most_entries)
 LogAllows log view (Event number payload) =
-    (is_here log view ≡ true) × (number ≡ last_number log view + 1) × (length payload ≤ most_payload) × (payload_bytes log + length payload ≤ most_bytes) × (length log < most_open_entries)
+    (is_here log view ≡ true) × (number ≡ last_number log view + 1) × (length payload ≤ most_payload)
+    × (payload_bytes log + length payload ≤ most_bytes) × (length log < most_open_entries)
 
 -- a legal log may go on with the entry
 pub record MayFollow (log : List Entry) (entry : Entry) : Type 0 where

@@ -19,11 +19,13 @@ pub record LineView : Type 0 where
 
 -- the world to which entries lead, one after the other; it is taken up anew before each
 abbrev pub after_entries : ProgramTree → WorldRecord → List Entry → WorldRecord
-after_entries program w entries = fold (λ (v : WorldRecord) (e : Entry). (external program e (take_up v)).world) w entries
+after_entries program w entries =
+    fold (λ (v : WorldRecord) (e : Entry). (external program e (take_up v)).world) w entries
 
 -- the world after the first n entries of the log
 abbrev pub world_after : LineView → ℕ → WorldRecord
-world_after line n = after_entries (checked_tree line.program) (first_scene (founding_of line.program) line.id).world (take n line.entries)
+world_after line n = after_entries (checked_tree line.program) (first_scene (founding_of line.program) line.id).world
+    (take n line.entries)
 
 -- ---- keyframes
 
@@ -61,4 +63,8 @@ pub record KeepsKeyframes (line : LineView) (frames : List WorldRecord) : Type 0
 
 -- the world of a time, on which nothing was published yet: the replay of the log to that time
 abbrev pub moment : LineView → ℕ → WorldView
-moment line t = record { program = line.program; scene = take_up (replay (founding_of line.program) line.id line.entries t).world; broken = false }
+moment line t = record {
+  program = line.program;
+  scene = take_up (replay (founding_of line.program) line.id line.entries t).world;
+  broken = false;
+}

@@ -32,7 +32,9 @@ pub fn keyframes(
     ensures founded { OnOk result (IsFounding (founding_of (arc_value program.now))) }
     ensures all { IfOk result (λ frames. length (map world_record frames.items) ≡ length log.now.entries / every + 1) }
     ensures each { let founding = founding_of (arc_value program.now) in
-        IfOk result (λ frames. AreFrom (λ k. after_entries founding.tree (first_scene founding id.0).world (take (k * every) log.now.entries)) 0 (map world_record frames.items)) }
+        IfOk result (λ frames. AreFrom (λ k.
+        after_entries founding.tree (first_scene founding id.0).world (take (k * every) log.now.entries)) 0
+        (map world_record frames.items)) }
 {
     let world = first(alloc, program.clone()?, id)?;
     frames_from(alloc, world, log, every)
@@ -40,7 +42,11 @@ pub fn keyframes(
 
 /// The first world of a session, of which what its models published is dropped.
 fn first(alloc: Global, program: Arc<Checked, Global>, id: SessionId) -> Result<World, WantOfMemory>
-    ensures first { IfOk result (λ w. w ≡ record { program = arc_value program; scene = take_up (first_scene (founding_of (arc_value program)) id.0).world; broken = false }) }
+    ensures first { IfOk result (λ w. w ≡ record {
+      program = arc_value program;
+      scene = take_up (first_scene (founding_of (arc_value program)) id.0).world;
+      broken = false;
+    }) }
     ensures begins { IfOk result (λ w. w.scene.world.time ≡ 0) }
     ensures founded { IfOk result (λ w. IsFounding (founding_of w.program)) }
 {
@@ -63,7 +69,8 @@ fn frames_from(
     requires positive { 1 ≤ every }
     ensures all { IfOk result (λ frames. length (map world_record frames.items) ≡ length log.now.entries / every + 1) }
     ensures each { IfOk result (λ frames.
-        AreFrom (λ k. after_entries (checked_tree world.program) world.scene.world (take (k * every) log.now.entries)) 0 (map world_record frames.items)) }
+        AreFrom (λ k. after_entries (checked_tree world.program) world.scene.world (take (k * every) log.now.entries)) 0
+        (map world_record frames.items)) }
 {
     frames_counted::<Brand>(alloc, world, log, every, Blank::new(1))
 }
@@ -86,7 +93,8 @@ fn frames_counted<L: Ledger>(
     requires positive { 1 ≤ every }
     ensures all { IfOk result (λ frames. length (map world_record frames.items) ≡ length log.now.entries / every + 1) }
     ensures each { IfOk result (λ frames.
-        AreFrom (λ k. after_entries (checked_tree world.program) world.scene.world (take (k * every) log.now.entries)) 0 (map world_record frames.items)) }
+        AreFrom (λ k. after_entries (checked_tree world.program) world.scene.world (take (k * every) log.now.entries)) 0
+        (map world_record frames.items)) }
 {
     let mut steps = Steps::<L>::new(blank);
     let mut frames = Vec::new(alloc);

@@ -52,9 +52,19 @@ impl Model for TimeLine {
 
     ghost coded = { Prim.hlevel (codes, coded_checked (Prim.hlevel (codes, stmt.the_row.coded))) };
 
-    ghost view = { λ l. record { program = arc_value l.program; id = l.id.0; entries = l.log.entries; every = l.every } };
+    ghost view = { λ l. record {
+      program = arc_value l.program;
+      id = l.id.0;
+      entries = l.log.entries;
+      every = l.every;
+    } };
 
-    ghost invariant = { λ l. KeepsKeyframes (record { program = arc_value l.program; id = l.id.0; entries = l.log.entries; every = l.every }) (map world_record l.keyframes.items) };
+    ghost invariant = { λ l. KeepsKeyframes (record {
+      program = arc_value l.program;
+      id = l.id.0;
+      entries = l.log.entries;
+      every = l.every;
+    }) (map world_record l.keyframes.items) };
 }
 
 impl TimeLine {
@@ -73,7 +83,12 @@ impl TimeLine {
         every: u32,
     ) -> Result<TimeLine, LineFault>
         requires { 1 ≤ every }
-        ensures { Makes result (record { program = arc_value program; id = id.0; entries = log.entries; every = every }) }
+        ensures { Makes result (record {
+          program = arc_value program;
+          id = id.0;
+          entries = log.entries;
+          every = every;
+        }) }
     {
         let frames = log.len() / every;
         if frames > MOST_FRAMES {
@@ -101,8 +116,8 @@ impl TimeLine {
         ensures counts { OnOk result (steps.new ≡ steps.old + count_until self.now.entries time % self.now.every) }
         ensures few { (steps.old ≤ steps.new) × (steps.new < steps.old + self.now.every) }
     {
-        worlds_after();
-        let count = self.log.after_time(time);
+        worlds_after(); // for the prover
+        let count = self.log.count_until(time);
         let frame = count / self.every;
         let program = self.program.clone()?;
         let mut world = World::from_plain(self.alloc, program, &self.keyframes[frame as usize])?;

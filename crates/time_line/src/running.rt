@@ -44,7 +44,7 @@ fn enter<L: Ledger>(
     ensures arrives { OnOk result (world.new.scene.world.time ≡ entry.now.time) }
     ensures counts { steps.new ≡ steps.old + 1 }
 {
-    steps.tick();
+    steps.tick(); // for the prover
     match world.external(entry) {
         Ok(()) => {
             let _published = world.take_out();
@@ -72,7 +72,8 @@ pub fn enter_all<L: Ledger>(
     requires order { from ≤ to }
     requires within { to ≤ length log.now.entries }
     ensures entered { OnOk result (world.new ≡ record (world.old) {
-      scene = take_up (after_entries (checked_tree world.old.program) world.old.scene.world (take (to - from) (drop from log.now.entries)));
+      scene = take_up (after_entries (checked_tree world.old.program) world.old.scene.world
+          (take (to - from) (drop from log.now.entries)));
     }) }
     ensures rises { OnOk result (TimesRiseAfter world.new.scene.world.time (drop to log.now.entries)) }
     ensures counts { OnOk result (steps.new ≡ steps.old + (to - from)) }

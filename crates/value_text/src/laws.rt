@@ -13,8 +13,10 @@ use std::alloc::Global;
 
 /// A value in bounds is read from its text, and from no other.
 pub fn texts_are_read()
-    ensures again { (value : PlainValue) → IsValue value → InBounds value → value_of_text (value_text value) ≡ Some value }
-    ensures only { (text : List ℕ) (value : PlainValue) → value_of_text text ≡ Some value → IsValue value × InBounds value × (text ≡ value_text value) }
+    ensures again { (value : PlainValue) → IsValue value → InBounds value
+        → value_of_text (value_text value) ≡ Some value }
+    ensures only { (text : List ℕ) (value : PlainValue) → value_of_text text ≡ Some value → IsValue value
+        × InBounds value × (text ≡ value_text value) }
 {}
 
 /// A value in bounds, printed and read again. Fails for want of memory alone.

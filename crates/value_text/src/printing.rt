@@ -42,7 +42,8 @@ pub fn push_value(out: &mut String, value: &Value) -> Result<(), WantOfMemory>
 
 #[cycle(push_value)]
 fn push_list(out: &mut String, items: &[Value]) -> Result<(), WantOfMemory>
-    ensures text { OnOk result (string_bytes out.new ≡ string_bytes out.old ++ 91 ∷ (items_text (plains items.now) ++ 93 ∷ [])) }
+    ensures text { OnOk result (string_bytes out.new ≡ string_bytes out.old ++ 91
+        ∷ (items_text (plains items.now) ++ 93 ∷ [])) }
     ensures values { OnOk result (AreValues (plains items.now)) }
 {
     out.push_str("[")?;

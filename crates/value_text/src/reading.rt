@@ -24,11 +24,14 @@ use text_lines::number;
 /// comes too where bytes follow the text of a value. Lists that nest deeper than in a value in bounds are not read.
 pub fn read_value(alloc: Global, text: &[u8]) -> Result<Value, ValueFault>
     // What is read is a value in bounds, and this is its text.
-    ensures read { IfOk result (λ value. IsValue (plain value) × InBounds (plain value) × (text.now ≡ value_text (plain value))) }
+    ensures read { IfOk result (λ value. IsValue (plain value) × InBounds (plain value)
+        × (text.now ≡ value_text (plain value))) }
     // No value in bounds has a text that is refused.
-    ensures bad { result ≡ Err ValueFault.BadValue → (value : PlainValue) → IsValue value → InBounds value → text.now ≢ value_text value }
+    ensures bad { result ≡ Err ValueFault.BadValue → (value : PlainValue) → IsValue value → InBounds value
+        → text.now ≢ value_text value }
     // The value that has this text is read, unless memory runs out.
-    ensures only { (value : PlainValue) → IsValue value → InBounds value → text.now ≡ value_text value → IfOk result (λ read. plain read ≡ value) }
+    ensures only { (value : PlainValue) → IsValue value → InBounds value → text.now ≡ value_text value
+        → IfOk result (λ read. plain read ≡ value) }
     // All this as one equation.
     ensures reads { ReadsValue result (value_of_text text.now) }
 {
@@ -72,7 +75,8 @@ fn list_value_at<'a>(
     levels: u32,
     bytes: &'a [u8],
 ) -> Result<(Value, &'a [u8]), ValueFault>
-    ensures { Decodes ValueFault.BadValue (λ x. (plain x.0, x.1.now)) result (made_at list (nested_items levels) bytes.now) }
+    ensures { Decodes ValueFault.BadValue (λ x. (plain x.0, x.1.now)) result
+        (made_at list (nested_items levels) bytes.now) }
 {
     let (items, rest) = nested_items(alloc, levels, bytes)?;
     Ok((Value::List(items), rest))
@@ -107,7 +111,8 @@ fn text_items_at<'a>(
     levels: u32,
     bytes: &'a [u8],
 ) -> Result<(Vec<Value>, &'a [u8]), ValueFault>
-    ensures { Decodes ValueFault.BadValue (λ x. (plain_values x.0.items, x.1.now)) result (text_items_at (value_text_at levels) [] (length bytes.now) bytes.now) }
+    ensures { Decodes ValueFault.BadValue (λ x. (plain_values x.0.items, x.1.now)) result
+        (text_items_at (value_text_at levels) [] (length bytes.now) bytes.now) }
 {
     let mut items = Vec::new(alloc);
     let mut rest = bytes;

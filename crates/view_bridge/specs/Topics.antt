@@ -13,7 +13,8 @@ is_topic scope event topic = bytes_eq topic.scope scope && bytes_eq topic.event 
 -- how the events of this name in this scope are handled, if they are: as the first topic of them says
 abbrev pub handling_of : List Topic → List ℕ → List ℕ → Option Handling
 handling_of [] scope event = None
-handling_of (topic ∷ topics) scope event = if is_topic scope event topic then Some topic.handling else handling_of topics scope event
+handling_of (topic ∷ topics) scope event =
+    if is_topic scope event topic then Some topic.handling else handling_of topics scope event
 
 -- whether there is a topic of this event in this scope
 abbrev pub has_topic : List Topic → List ℕ → List ℕ → Bool
@@ -81,4 +82,5 @@ shown_together (Some OncePerFrame) events = last_alone events
 abbrev pub IsSublist : List PlainOutgoing → List PlainOutgoing → Type 0
 IsSublist [] events = Unit {0}
 IsSublist (first ∷ rest) [] = ⊥
-IsSublist (first ∷ rest) (outgoing ∷ events) = ((first ≡ outgoing) × IsSublist rest events) ⊎ IsSublist (first ∷ rest) events
+IsSublist (first ∷ rest) (outgoing ∷ events) =
+    ((first ≡ outgoing) × IsSublist rest events) ⊎ IsSublist (first ∷ rest) events

@@ -81,7 +81,8 @@ fn is_handled(topics: &[Topic], outgoing: &Outgoing, later: &VecDeque<Outgoing>)
 /// Each event is compared with the topics, and one that is handled once a frame with those behind it up to the next of its
 /// topic: for each topic each event is looked at once.
 pub fn handle(alloc: Global, topics: &[Topic], events: Published) -> Result<Published, WantOfMemory>
-    ensures { IfOk result (λ handled. map plain_outgoing handled ≡ handled_events topics.now (map plain_outgoing events)) }
+    ensures { IfOk result (λ handled. map plain_outgoing handled
+        ≡ handled_events topics.now (map plain_outgoing events)) }
 {
     let mut handled = Vec::new(alloc);
     let mut later = VecDeque::from(events.into_vec());

@@ -9,6 +9,8 @@ ghost use Rattle.view_bridge.specs.Topics.{handling_of, handled_events, of_topic
 /// among those that were published, in the same order.
 pub fn events_are_handled_by_topic()
     ensures topic { (topics : List Topic) (events : List PlainOutgoing) (scope event : List ℕ) →
-        of_topic scope event (handled_events topics events) ≡ shown_together (handling_of topics scope event) (of_topic scope event events) }
-    ensures order { (topics : List Topic) (events : List PlainOutgoing) → IsSublist (handled_events topics events) events }
+        of_topic scope event (handled_events topics events)
+        ≡ shown_together (handling_of topics scope event) (of_topic scope event events) }
+    ensures order { (topics : List Topic) (events : List PlainOutgoing)
+        → IsSublist (handled_events topics events) events }
 {}

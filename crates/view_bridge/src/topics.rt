@@ -81,7 +81,8 @@ impl ViewTopics {
     /// The events that the view handles, of those that were published since the last time, in order: each of a queued
     /// topic, and of a topic that is handled once a frame the last alone.
     pub fn update(&self, events: Published) -> Result<Published, WantOfMemory>
-        ensures { IfOk result (λ handled. map plain_outgoing handled ≡ handled_events self.now (map plain_outgoing events)) }
+        ensures { IfOk result (λ handled. map plain_outgoing handled
+            ≡ handled_events self.now (map plain_outgoing events)) }
     {
         handle(self.alloc, &self.topics, events)
     }

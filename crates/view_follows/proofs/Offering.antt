@@ -18,7 +18,7 @@ use Rattle.join_sync.specs.declared.early.Early.{Early}
 use Rattle.join_sync.specs.Answers.{first_cursor, join_answer, answer_frame}
 use Rattle.join_sync.specs.Batches.{next_cursor, next_frames}
 use Rattle.join_sync.specs.Requests.{IsJoin, first_request}
-use Rattle.system_plain.specs.Steps.{answer_frames, joined_view}
+use Rattle.system_plain.specs.Turn.{answer_frames, joined_view, open_act}
 use Rattle.connection.specs.declared.ending.Ended.{Ended}
 use Rattle.connection.specs.declared.ending.Ended.TheVariants as ended
 use Rattle.connection.specs.Exchanges.{Exchange, Answered, Unanswered}
@@ -91,7 +91,7 @@ module _ (Good : ℕ → List ℕ → Type 0) where
   join_good (request.Offer view joined time bytes) is = absurd is
   join_good (request.Pull after limit) is = absurd is
 
-  entered_good : (id : SessionId) (frame : ClientFrame) (now : ℕ) (r : Result Request Early) → first_request frame id now ≡ r → IsGoodPhase (entered_phase frame r)
+  entered_good : (id : SessionId) (frame : ClientFrame) (now : ℕ) (r : Result Request Early) → first_request frame id now ≡ r → IsGoodPhase (entered_phase (open_act frame r))
   entered_good id frame now (Ok asked) is = join_good asked (first_is_join frame id now asked is)
   entered_good id frame now (Err early) is = (tt, tt, tt)
 

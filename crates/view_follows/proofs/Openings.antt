@@ -32,7 +32,7 @@ use Rattle.session_lock.specs.declared.knowledge.Item.{Item}
 use Rattle.reflector_core.specs.declared.keeper.CallFault.TheVariants as fault
 use Rattle.session_lock.specs.declared.knowledge.Item.TheVariants.{Did, Void, Unkept}
 use Rattle.session_lock.specs.History.{after_item, calls_of, play_from}
-use Rattle.system_plain.specs.Steps.{joined_view}
+use Rattle.system_plain.specs.Turn.{joined_view, open_act}
 use Rattle.system_plain.proofs.AnswerFrames.{refused_form}
 use Rattle.replica_plain.specs.Following.{IsHonestBase}
 use Rattle.connection.specs.declared.ending.Ended.TheVariants as ended
@@ -123,7 +123,7 @@ joining_opens id asked (MakesRequest given ∷ events) join = greets id asked gi
 joining_opens id asked (Misses why ∷ events) join = inl (no_sync _ (silent id (Over (ended_by why)) events tt))
 joining_opens id asked (event ∷ events) join = inl (no_sync _ (silent id Wrong events tt))
 
-entered_opens : (id : SessionId) (frame : ClientFrame) (now : ℕ) (r : Result Request Early) (events : List TalkEvent) → first_request frame id now ≡ r → let walked = talk_walk id (entered_phase frame r) events in Opens walked.asked walked.sent
+entered_opens : (id : SessionId) (frame : ClientFrame) (now : ℕ) (r : Result Request Early) (events : List TalkEvent) → first_request frame id now ≡ r → let walked = talk_walk id (entered_phase (open_act frame r)) events in Opens walked.asked walked.sent
 entered_opens id frame now (Ok asked) events is = joining_opens id asked events (first_is_join frame id now asked is)
 entered_opens id frame now (Err early) events is = inl (refused_opens id (client_tag frame) (code_number (early_code early)) 0 0 events)
 

@@ -55,11 +55,13 @@ CountsEvents r frame = Unit {0}
 -- so does each that comes
 abbrev pub SyncsCountEvents : Phase → List Step → Type 0
 SyncsCountEvents from steps =
-    (front back : List Step) (v : Viewer) (aim : Aim) (bytes : List ℕ) → front ++ Hears (said.Frame bytes) ∷ back ≡ steps → Walks from front (Receiving v aim)
+    (front back : List Step) (v : Viewer) (aim : Aim) (bytes : List ℕ)
+    → front ++ Hears (said.Frame bytes) ∷ back ≡ steps → Walks from front (Receiving v aim)
     → CountsEvents v.replica (whole server_at bytes)
 
 -- a program, a legal log, and steps of a view whose links it answered
-pub record IsAnsweredVisit (founding : Founding) (id : List ℕ) (view : ℕ) (address : List ℕ) (lines : List PlainLine) (log : List Entry) (steps : List Step) : Type 0 where
+pub record IsAnsweredVisit (founding : Founding) (id : List ℕ) (view : ℕ) (address : List ℕ) (lines : List PlainLine)
+    (log : List Entry) (steps : List Step) : Type 0 where
   pub program : IsFounding founding
   pub legal : IsLegal log
   pub answers : AreAnswered (worlds founding id) log new_link steps
@@ -92,15 +94,19 @@ RefuseNoOther (step ∷ rest) = RefuseNoOther rest
 
 -- a view ends for its peer's fault only where its links were not answered so
 abbrev pub AnsweredVisitsHaveNoFault : Type 0
-AnsweredVisitsHaveNoFault = (founding : Founding) (id : List ℕ) (view : ℕ) (address : List ℕ) (lines : List PlainLine) (log : List Entry) (steps : List Step)
-    → IsAnsweredVisit founding id view address lines log steps → ¬ Walks (first_phase founding id view address lines) steps (Over ending.Peer)
+AnsweredVisitsHaveNoFault = (founding : Founding) (id : List ℕ) (view : ℕ) (address : List ℕ) (lines : List PlainLine)
+    (log : List Entry) (steps : List Step)
+    → IsAnsweredVisit founding id view address lines log steps
+    → ¬ Walks (first_phase founding id view address lines) steps (Over ending.Peer)
 
 -- it ends with its link only where one said that it has ended, or was quiet too often
 abbrev pub VisitsEndWithLinks : Type 0
-VisitsEndWithLinks = (founding : Founding) (id : List ℕ) (view : ℕ) (address : List ℕ) (lines : List PlainLine) (steps : List Step)
+VisitsEndWithLinks = (founding : Founding) (id : List ℕ) (view : ℕ) (address : List ℕ) (lines : List PlainLine)
+    (steps : List Step)
     → GoOn 0 steps → ¬ Walks (first_phase founding id view address lines) steps (Over ending.Ended)
 
 -- and with a refusal only where it heard one, of another frame than a snapshot
 abbrev pub VisitsEndByRefusals : Type 0
-VisitsEndByRefusals = (founding : Founding) (id : List ℕ) (view : ℕ) (address : List ℕ) (lines : List PlainLine) (steps : List Step) (code kept : ℕ)
+VisitsEndByRefusals = (founding : Founding) (id : List ℕ) (view : ℕ) (address : List ℕ) (lines : List PlainLine)
+    (steps : List Step) (code kept : ℕ)
     → RefuseNoOther steps → ¬ Walks (first_phase founding id view address lines) steps (Over (ending.Refused code kept))

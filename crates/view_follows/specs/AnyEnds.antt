@@ -24,9 +24,11 @@ use Rattle.view_follows.specs.SessionsReplay.{last_log}
 
 -- Its connections have their talks in the history, at times that its clock may give, counted from the horizon of the opening session. The session
 -- was sound at each place.
-pub record HasTalks {C L : Type 0} (gives : C → ℕ → Type 0) (id : SessionId) (links : LinksTell L) (run : ReflectorRun C L) : Type 0 where
+pub record HasTalks {C L : Type 0} (gives : C → ℕ → Type 0) (id : SessionId) (links : LinksTell L)
+    (run : ReflectorRun C L) : Type 0 where
   pub opener : ℕ
-  pub talks : IsHistoryOf (gives_later (gives run.clock) run.opening.horizon) id run.opening links run.connections opener run.history
+  pub talks : IsHistoryOf (gives_later (gives run.clock) run.opening.horizon) id run.opening links run.connections
+      opener run.history
   pub sound : IsSoundThrough run.opening run.history
 
 -- a Leave, or a call that has no answer
@@ -43,7 +45,8 @@ pub record HasOnlyLeft {C L : Type 0} (run : ReflectorRun C L) : Type 0 where
 
 -- What `reflect` says of a run, however it ended: also of one that found no memory, did not listen, or could not keep its session. The
 -- session that it came to is what the history makes of the opening one.
-pub record HasRun {C L : Type 0} (gives : C → ℕ → Type 0) (id : SessionId) (links : LinksTell L) (run : ReflectorRun C L) : Type 0 where
+pub record HasRun {C L : Type 0} (gives : C → ℕ → Type 0) (id : SessionId) (links : LinksTell L)
+    (run : ReflectorRun C L) : Type 0 where
   pub did : HasTalks gives id links run ⊎ HasOnlyLeft run
   pub play : run.session ≡ play_from run.opening run.history
 
@@ -86,16 +89,19 @@ BeginAndFollow (run ∷ runs) = (run.opening ≡ first_session) × FollowOn run 
 -- ---- all runs
 
 -- runs of one session, whoever their clients are
-pub record AreRuns {C L : Type 0} (gives : C → ℕ → Type 0) (id : SessionId) (links : LinksTell L) (runs : List (ReflectorRun C L)) : Type 0 where
+pub record AreRuns {C L : Type 0} (gives : C → ℕ → Type 0) (id : SessionId) (links : LinksTell L)
+    (runs : List (ReflectorRun C L)) : Type 0 where
   pub each_ran : AllByRecursion (HasRun gives id links) runs
   pub follow : BeginAndFollow runs
 
 -- and each of their connections is that of a view
-pub record AreRunsOfViews {C L : Type 0} (gives : C → ℕ → Type 0) (id : SessionId) (links : LinksTell L) (founding : Founding) (runs : List (ReflectorRun C L)) (views : List (SessionView L)) : Type 0 where
+pub record AreRunsOfViews {C L : Type 0} (gives : C → ℕ → Type 0) (id : SessionId) (links : LinksTell L)
+    (founding : Founding) (runs : List (ReflectorRun C L)) (views : List (SessionView L)) : Type 0 where
   pub program : IsFounding founding
   pub are_runs : AreRuns gives id links runs
   pub each : AllByRecursion (IsViewOf founding id.0 runs) views
-  pub all : (number : ℕ) (run : ReflectorRun C L) → slice_get runs number ≡ Some run → AllByRecursion (IsLinkOfView views number) run.connections
+  pub all : (number : ℕ) (run : ReflectorRun C L) → slice_get runs number ≡ Some run
+      → AllByRecursion (IsLinkOfView views number) run.connections
 
 -- ---- laws
 
@@ -115,9 +121,12 @@ pub record LivesOn {C L : Type 0} (runs : List (ReflectorRun C L)) : Type 0 wher
 
 -- so it is of all runs of a session
 abbrev pub RunsLiveOn : {C L : Type 0} → (C → ℕ → Type 0) → LinksTell L → Type 0
-RunsLiveOn {C = C} {L = L} gives links = (id : SessionId) (runs : List (ReflectorRun C L)) → AreRuns gives id links runs → LivesOn runs
+RunsLiveOn {C = C} {L = L} gives links = (id : SessionId) (runs : List (ReflectorRun C L)) → AreRuns gives id links runs
+    → LivesOn runs
 
 -- a law of all runs of a session whose only clients are views
-abbrev pub OfRunsOfViews : {C L : Type 0} → (C → ℕ → Type 0) → LinksTell L → (Founding → SessionId → List (ReflectorRun C L) → List (SessionView L) → Type 0) → Type 0
+abbrev pub OfRunsOfViews : {C L : Type 0} → (C → ℕ → Type 0) → LinksTell L
+    → (Founding → SessionId → List (ReflectorRun C L) → List (SessionView L) → Type 0) → Type 0
 OfRunsOfViews {C = C} {L = L} gives links Law =
-    (founding : Founding) (id : SessionId) (runs : List (ReflectorRun C L)) (views : List (SessionView L)) → AreRunsOfViews gives id links founding runs views → Law founding id runs views
+    (founding : Founding) (id : SessionId) (runs : List (ReflectorRun C L)) (views : List (SessionView L))
+    → AreRunsOfViews gives id links founding runs views → Law founding id runs views

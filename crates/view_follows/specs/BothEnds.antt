@@ -24,5 +24,6 @@ pub record IsLinkBetween (link : LinkTalk) (heard : List Heard) (sent : List (Li
 
 -- so what a log serves at the reflector's end it serves at the view's
 abbrev pub LinksMeet : Type 0
-LinksMeet = (m : Worlds WorldRecord PlainOutgoing) (log : List Entry) (link : LinkTalk) (heard : List Heard) (sent : List (List ℕ)) (talk : IsTalkServed log heard sent)
+LinksMeet = (m : Worlds WorldRecord PlainOutgoing) (log : List Entry) (link : LinkTalk) (heard : List Heard)
+    (sent : List (List ℕ)) (talk : IsTalkServed log heard sent)
     → BeginsHonestly m log talk.frames → IsLinkBetween link heard sent → IsServedBy m log link

@@ -30,7 +30,8 @@ AllCount s [] = Unit {0}
 AllCount s (told ∷ more) = CountsTold told s.phase × AllCount (live_step s told).state more
 
 -- a program, a legal log, and what a live view was told, whose links the log answered
-pub record IsAnsweredLive (founding : Founding) (id : List ℕ) (view : ℕ) (address : List ℕ) (log : List Entry) (inputs : List LiveInput) : Type 0 where
+pub record IsAnsweredLive (founding : Founding) (id : List ℕ) (view : ℕ) (address : List ℕ) (log : List Entry)
+    (inputs : List LiveInput) : Type 0 where
   pub program : IsFounding founding
   pub legal : IsLegal log
   pub answers : AreAnswered (worlds founding id) log new_link (link_steps (first_state founding id view address) inputs)
@@ -40,11 +41,14 @@ pub record IsAnsweredLive (founding : Founding) (id : List ℕ) (view : ℕ) (ad
 
 -- a live view whose frames all fit the wire ends for its peer's fault only where its links were not answered so
 abbrev pub AnsweredLiveViewsHaveNoFault : Type 0
-AnsweredLiveViewsHaveNoFault = (founding : Founding) (id : List ℕ) (view : ℕ) (address : List ℕ) (log : List Entry) (inputs : List LiveInput)
-    → IsAnsweredLive founding id view address log inputs → (live_run (first_state founding id view address) inputs).fit ≡ true → (live_run (first_state founding id view address) inputs).phase ≡ Over ending.Peer → ⊥
+AnsweredLiveViewsHaveNoFault =
+    (founding : Founding) (id : List ℕ) (view : ℕ) (address : List ℕ) (log : List Entry) (inputs : List LiveInput)
+    → IsAnsweredLive founding id view address log inputs → (live_run (first_state founding id view address) inputs).fit
+    ≡ true → (live_run (first_state founding id view address) inputs).phase ≡ Over ending.Peer → ⊥
 
 -- the text ends with a line that is the replay of the log, of a replica of this view that follows the log
-pub record EndsInReplayText (founding : Founding) (id : List ℕ) (view : ℕ) (log : List Entry) (text : List ℕ) : Type 0 where
+pub record EndsInReplayText (founding : Founding) (id : List ℕ) (view : ℕ) (log : List Entry)
+    (text : List ℕ) : Type 0 where
   pub front : List ℕ
   pub line : List ℕ
   pub is : text ≡ front ++ line
@@ -53,6 +57,8 @@ pub record EndsInReplayText (founding : Founding) (id : List ℕ) (view : ℕ) (
 
 -- one that is done printed such a line last
 abbrev pub AnsweredLiveViewsReplay : Type 0
-AnsweredLiveViewsReplay = (founding : Founding) (id : List ℕ) (view : ℕ) (address : List ℕ) (log : List Entry) (inputs : List LiveInput)
-    → IsAnsweredLive founding id view address log inputs → (live_run (first_state founding id view address) inputs).fit ≡ true → (live_run (first_state founding id view address) inputs).phase ≡ Over ending.Done
+AnsweredLiveViewsReplay = (founding : Founding) (id : List ℕ) (view : ℕ) (address : List ℕ) (log : List Entry)
+    (inputs : List LiveInput)
+    → IsAnsweredLive founding id view address log inputs → (live_run (first_state founding id view address) inputs).fit
+    ≡ true → (live_run (first_state founding id view address) inputs).phase ≡ Over ending.Done
     → EndsInReplayText founding id view log (live_run (first_state founding id view address) inputs).text

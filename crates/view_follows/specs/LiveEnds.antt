@@ -65,12 +65,15 @@ TakesAllWell s (told ∷ more) = IsTakenWell told s.phase × TakesAllWell (live_
 -- a live view ends with its link only where one said that it has ended, or was quiet too often
 abbrev pub LiveViewsEndWithLinks : Type 0
 LiveViewsEndWithLinks = (founding : Founding) (id : List ℕ) (view : ℕ) (address : List ℕ) (inputs : List LiveInput)
-    → GoOn 0 (link_steps (first_state founding id view address) inputs) → (live_run (first_state founding id view address) inputs).phase ≡ Over ending.Ended → ⊥
+    → GoOn 0 (link_steps (first_state founding id view address) inputs)
+    → (live_run (first_state founding id view address) inputs).phase ≡ Over ending.Ended → ⊥
 
 -- with a refusal only where it heard one, of another frame than a snapshot
 abbrev pub LiveViewsEndByRefusals : Type 0
-LiveViewsEndByRefusals = (founding : Founding) (id : List ℕ) (view : ℕ) (address : List ℕ) (inputs : List LiveInput) (code kept : ℕ)
-    → RefuseNoOther (link_steps (first_state founding id view address) inputs) → (live_run (first_state founding id view address) inputs).phase ≡ Over (ending.Refused code kept) → ⊥
+LiveViewsEndByRefusals = (founding : Founding) (id : List ℕ) (view : ℕ) (address : List ℕ) (inputs : List LiveInput)
+    (code kept : ℕ)
+    → RefuseNoOther (link_steps (first_state founding id view address) inputs)
+    → (live_run (first_state founding id view address) inputs).phase ≡ Over (ending.Refused code kept) → ⊥
 
 -- and with a fault of the net only where a link was not made, or failed
 abbrev pub LiveViewsEndByFaults : Type 0
@@ -80,4 +83,5 @@ LiveViewsEndByFaults = (founding : Founding) (id : List ℕ) (view : ℕ) (addre
 -- with a fault of its peer only where it heard what is no frame of a reflector, or one in which its replica found such a fault
 abbrev pub LiveViewsEndByPeers : Type 0
 LiveViewsEndByPeers = (founding : Founding) (id : List ℕ) (view : ℕ) (address : List ℕ) (inputs : List LiveInput)
-    → TakesAllWell (first_state founding id view address) inputs → (live_run (first_state founding id view address) inputs).phase ≡ Over ending.Peer → ⊥
+    → TakesAllWell (first_state founding id view address) inputs
+    → (live_run (first_state founding id view address) inputs).phase ≡ Over ending.Peer → ⊥

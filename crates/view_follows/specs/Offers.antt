@@ -12,7 +12,8 @@ use Rattle.replica_plain.specs.Following.{FollowsLog}
 use Rattle.run_steps.specs.Steps.{Step, Sends}
 
 -- the snapshot, and the time, of a replica that follows the log; it is read again as that replica's world
-pub record IsOfFollower (m : Worlds WorldRecord PlainOutgoing) (log : List Entry) (time : ℕ) (bytes : List ℕ) : Type 0 where
+pub record IsOfFollower (m : Worlds WorldRecord PlainOutgoing) (log : List Entry) (time : ℕ)
+    (bytes : List ℕ) : Type 0 where
   pub replica : PlainReplica WorldRecord PlainOutgoing
   pub follows : FollowsLog m log replica
   pub timed : time ≡ m.time replica.world
@@ -23,5 +24,6 @@ pub record IsOfFollower (m : Worlds WorldRecord PlainOutgoing) (log : List Entry
 abbrev pub OffersFollow : Worlds WorldRecord PlainOutgoing → List Entry → List Step → Type 0
 OffersFollow m log [] = Unit {0}
 OffersFollow m log (Sends sent ∷ rest) =
-    ((time : ℕ) (bytes : List ℕ) → time < time_limit → sent ≡ client_spelling (client.Snap time bytes) → IsOfFollower m log time bytes) × OffersFollow m log rest
+    ((time : ℕ) (bytes : List ℕ) → time < time_limit → sent ≡ client_spelling (client.Snap time bytes)
+    → IsOfFollower m log time bytes) × OffersFollow m log rest
 OffersFollow m log (step ∷ rest) = OffersFollow m log rest

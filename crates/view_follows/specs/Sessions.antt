@@ -34,9 +34,11 @@ pub record ReflectorRun (C L : Type 0) : Type 0 where
 
 -- What `reflect` says of a run. Its connections have their talks in the history, at times that its clock may give, counted from the horizon of the
 -- opening session. Before them each view that was here in that session was made to leave. The session that it left is what the history makes of the opening one.
-pub record IsReflectorRun {C L : Type 0} (gives : C → ℕ → Type 0) (id : SessionId) (links : LinksTell L) (run : ReflectorRun C L) : Type 0 where
+pub record IsReflectorRun {C L : Type 0} (gives : C → ℕ → Type 0) (id : SessionId) (links : LinksTell L)
+    (run : ReflectorRun C L) : Type 0 where
   pub opener : ℕ
-  pub talks : IsHistoryOf (gives_later (gives run.clock) run.opening.horizon) id run.opening links run.connections opener run.history
+  pub talks : IsHistoryOf (gives_later (gives run.clock) run.opening.horizon) id run.opening links run.connections
+      opener run.history
   pub plays : Plays run.opening run.history run.session
 
 -- Each run begins with the session that the one before it left, and the first one with this. A run puts its session as it is stored, and the next
@@ -62,7 +64,8 @@ frames_heard (other ∷ rest) = frames_heard rest
 abbrev pub ComesFrom : List (List ℕ) → List (List ℕ) → Type 0
 ComesFrom [] sent = Unit {0}
 ComesFrom (bytes ∷ heard) [] = (bytes ≡ client_spelling client.Alive) × ComesFrom heard []
-ComesFrom (bytes ∷ heard) (first ∷ sent) = ((bytes ≡ client_spelling client.Alive) × ComesFrom heard (first ∷ sent)) ⊎ ((bytes ≡ first) × ComesFrom heard sent)
+ComesFrom (bytes ∷ heard) (first ∷ sent) = ((bytes ≡ client_spelling client.Alive) × ComesFrom heard (first ∷ sent))
+    ⊎ ((bytes ≡ first) × ComesFrom heard sent)
 
 -- a link of a view and its connection at the reflector, which heard what the view sent
 pub record IsLinkTo {L : Type 0} (link : LinkTalk) (end : ServedConnection L) : Type 0 where
@@ -88,14 +91,18 @@ ComeTo links ends = ⊥
 
 -- as long as the one caller has made no call, the other has made none
 abbrev pub CallsFirst : List Item → ℕ → ℕ → Type 0
-CallsFirst history one other = (front back : List Item) → front ++ back ≡ history → calls_of (one ∷ []) front ≡ [] → calls_of (other ∷ []) front ≡ []
+CallsFirst history one other = (front back : List Item) → front ++ back ≡ history → calls_of (one ∷ []) front ≡ []
+    → calls_of (other ∷ []) front ≡ []
 
-abbrev pub CallsFirstIn : {C L : Type 0} → List (ReflectorRun C L) → ℕ → ServedConnection L → ServedConnection L → Type 0
-CallsFirstIn {C = C} {L = L} runs number one other = (run : ReflectorRun C L) → slice_get runs number ≡ Some run → CallsFirst run.history one.caller other.caller
+abbrev pub CallsFirstIn : {C L : Type 0} → List (ReflectorRun C L) → ℕ → ServedConnection L → ServedConnection L
+    → Type 0
+CallsFirstIn {C = C} {L = L} runs number one other = (run : ReflectorRun C L) → slice_get runs number ≡ Some run
+    → CallsFirst run.history one.caller other.caller
 
 -- it is of an earlier run; or both are of one, and there it makes its first call before the other does
 abbrev pub BeginsBefore : {C L : Type 0} → List (ReflectorRun C L) → Option (FarEnd L) → Option (FarEnd L) → Type 0
-BeginsBefore runs (Some one) (Some other) = (one.run < other.run) ⊎ ((one.run ≡ other.run) × CallsFirstIn runs other.run one.connection other.connection)
+BeginsBefore runs (Some one) (Some other) =
+    (one.run < other.run) ⊎ ((one.run ≡ other.run) × CallsFirstIn runs other.run one.connection other.connection)
 BeginsBefore runs one other = Unit {0}
 
 -- so does each of these, before the later ones
@@ -117,10 +124,12 @@ pub record SessionView (L : Type 0) : Type 0 where
 
 abbrev pub IsAmong : {C L : Type 0} → List (ReflectorRun C L) → Option (FarEnd L) → Type 0
 IsAmong runs None = Unit {0}
-IsAmong {C = C} {L = L} runs (Some end) = (run : ReflectorRun C L) × (slice_get runs end.run ≡ Some run) × Contains run.connections end.connection
+IsAmong {C = C} {L = L} runs (Some end) = (run : ReflectorRun C L) × (slice_get runs end.run ≡ Some run)
+    × Contains run.connections end.connection
 
 -- It walked as views do, each of its links came to a connection of one of the runs or to none, and these made their first calls in the order of the links.
-pub record IsViewOf {C L : Type 0} (founding : Founding) (id : List ℕ) (runs : List (ReflectorRun C L)) (v : SessionView L) : Type 0 where
+pub record IsViewOf {C L : Type 0} (founding : Founding) (id : List ℕ) (runs : List (ReflectorRun C L))
+    (v : SessionView L) : Type 0 where
   pub walks : Walks (first_phase founding id v.view v.address v.lines) v.steps v.last
   pub links : ComeTo (links_in v.steps) v.ends
   pub known : AllByRecursion (IsAmong runs) v.ends
@@ -128,12 +137,15 @@ pub record IsViewOf {C L : Type 0} (founding : Founding) (id : List ℕ) (runs :
 
 -- the connection of this run is that of a link of one of the views
 abbrev pub IsLinkOfView : {L : Type 0} → List (SessionView L) → ℕ → ServedConnection L → Type 0
-IsLinkOfView {L = L} views number one = (v : SessionView L) × Contains views v × Contains v.ends (Some (record { run = number; connection = one }))
+IsLinkOfView {L = L} views number one =
+    (v : SessionView L) × Contains views v × Contains v.ends (Some (record { run = number; connection = one }))
 
 -- Runs that take up one session, the first one a new session. Each of their connections is that of a view.
-pub record AreViewRuns {C L : Type 0} (gives : C → ℕ → Type 0) (id : SessionId) (links : LinksTell L) (founding : Founding) (runs : List (ReflectorRun C L)) (views : List (SessionView L)) : Type 0 where
+pub record AreViewRuns {C L : Type 0} (gives : C → ℕ → Type 0) (id : SessionId) (links : LinksTell L)
+    (founding : Founding) (runs : List (ReflectorRun C L)) (views : List (SessionView L)) : Type 0 where
   pub program : IsFounding founding
   pub reflected : AllByRecursion (IsReflectorRun gives id links) runs
   pub take_up : TakeUp first_session runs
   pub each : AllByRecursion (IsViewOf founding id.0 runs) views
-  pub all : (number : ℕ) (run : ReflectorRun C L) → slice_get runs number ≡ Some run → AllByRecursion (IsLinkOfView views number) run.connections
+  pub all : (number : ℕ) (run : ReflectorRun C L) → slice_get runs number ≡ Some run
+      → AllByRecursion (IsLinkOfView views number) run.connections

@@ -32,16 +32,22 @@ pub record IsReplayLine (founding : Founding) (id : List ℕ) (view : ℕ) (log 
 
 -- the same in plain words: the line of a replica that has the replay of the log to a time, and has seen the entries until then
 abbrev pub replayed : Founding → List ℕ → ℕ → List Entry → ℕ → PlainReplica WorldRecord PlainOutgoing
-replayed founding id view log t = record (new_replica (worlds founding id) view) { world = (replay founding id log t).world; seen = count_until log t }
+replayed founding id view log t =
+    record (new_replica (worlds founding id) view) {
+      world = (replay founding id log t).world;
+      seen = count_until log t;
+    }
 
 -- the line is the one that a replay of the log prints, at some time
-pub record TellsReplayOf (founding : Founding) (id : List ℕ) (view : ℕ) (log : List Entry) (line : List ℕ) : Type 0 where
+pub record TellsReplayOf (founding : Founding) (id : List ℕ) (view : ℕ) (log : List Entry)
+    (line : List ℕ) : Type 0 where
   pub time : ℕ
   pub timed : (replay founding id log time).world.time ≡ time
   pub told : line ≡ view_line (replayed founding id view log time)
 
 -- the text that was printed last is such a line, of a replica of this view that follows the log
-pub record EndsInReplay (founding : Founding) (id : List ℕ) (view : ℕ) (log : List Entry) (steps : List Step) : Type 0 where
+pub record EndsInReplay (founding : Founding) (id : List ℕ) (view : ℕ) (log : List Entry)
+    (steps : List Step) : Type 0 where
   pub front : List Step
   pub line : List ℕ
   pub last : steps ≡ front ++ Prints line ∷ []
@@ -49,7 +55,8 @@ pub record EndsInReplay (founding : Founding) (id : List ℕ) (view : ℕ) (log 
   pub tells : TellsReplayOf founding id view log line
 
 -- a view, a script, a legal log and steps that lead to this phase, where the log serves each link
-pub record IsServedVisit (founding : Founding) (id : List ℕ) (view : ℕ) (address : List ℕ) (lines : List PlainLine) (log : List Entry) (steps : List Step) (last : Phase) : Type 0 where
+pub record IsServedVisit (founding : Founding) (id : List ℕ) (view : ℕ) (address : List ℕ) (lines : List PlainLine)
+    (log : List Entry) (steps : List Step) (last : Phase) : Type 0 where
   pub program : IsFounding founding
   pub legal : IsLegal log
   pub walks : Walks (first_phase founding id view address lines) steps last
@@ -57,13 +64,17 @@ pub record IsServedVisit (founding : Founding) (id : List ℕ) (view : ℕ) (add
 
 -- whoever comes to his last line is told the replay
 abbrev pub ViewsReplay : Type 0
-ViewsReplay = (founding : Founding) (id : List ℕ) (view : ℕ) (address : List ℕ) (lines : List PlainLine) (log : List Entry) (steps : List Step) (line : List ℕ)
-    → IsServedVisit founding id view address lines log steps (PrintingLast line) → IsReplayLine founding id view log line × TellsReplayOf founding id view log line
+ViewsReplay = (founding : Founding) (id : List ℕ) (view : ℕ) (address : List ℕ) (lines : List PlainLine)
+    (log : List Entry) (steps : List Step) (line : List ℕ)
+    → IsServedVisit founding id view address lines log steps (PrintingLast line)
+    → IsReplayLine founding id view log line × TellsReplayOf founding id view log line
 
 -- and so is whoever is done
 abbrev pub VisitsEndInReplay : Type 0
-VisitsEndInReplay = (founding : Founding) (id : List ℕ) (view : ℕ) (address : List ℕ) (lines : List PlainLine) (log : List Entry) (steps : List Step)
-    → IsServedVisit founding id view address lines log steps (Over ending.Done) → EndsInReplay founding id view log steps
+VisitsEndInReplay = (founding : Founding) (id : List ℕ) (view : ℕ) (address : List ℕ) (lines : List PlainLine)
+    (log : List Entry) (steps : List Step)
+    → IsServedVisit founding id view address lines log steps (Over ending.Done)
+    → EndsInReplay founding id view log steps
 
 -- A line `show` tells what came of the rest, and then a world in full: the replay of the log to the time that the view has.
 abbrev pub ShowsReplayOf : Founding → List ℕ → List Entry → Viewer → List PlainLine → Type 0
@@ -73,10 +84,13 @@ ShowsReplayOf founding id log v rest =
 
 -- each world that it shows is a replay, as a query of the recorded session prints it
 abbrev pub VisitsShowReplays : Type 0
-VisitsShowReplays = (founding : Founding) (id : List ℕ) (view : ℕ) (address : List ℕ) (lines : List PlainLine) (log : List Entry) (steps : List Step) (v : Viewer) (text : List ℕ) (rest : List PlainLine)
-    → IsServedVisit founding id view address lines log steps (Printing v text) → v.lines ≡ Show ∷ rest → ShowsReplayOf founding id log v rest
+VisitsShowReplays = (founding : Founding) (id : List ℕ) (view : ℕ) (address : List ℕ) (lines : List PlainLine)
+    (log : List Entry) (steps : List Step) (v : Viewer) (text : List ℕ) (rest : List PlainLine)
+    → IsServedVisit founding id view address lines log steps (Printing v text) → v.lines ≡ Show ∷ rest
+    → ShowsReplayOf founding id log v rest
 
 -- each snapshot that it offers, in whatever phase it is, is of a replica that follows the log
 abbrev pub VisitsOfferFollowers : Type 0
-VisitsOfferFollowers = (founding : Founding) (id : List ℕ) (view : ℕ) (address : List ℕ) (lines : List PlainLine) (log : List Entry) (steps : List Step) (last : Phase)
+VisitsOfferFollowers = (founding : Founding) (id : List ℕ) (view : ℕ) (address : List ℕ) (lines : List PlainLine)
+    (log : List Entry) (steps : List Step) (last : Phase)
     → IsServedVisit founding id view address lines log steps last → OffersFollow (worlds founding id) log steps

@@ -72,9 +72,9 @@ pub fn links_meet()
 /// gap; the reflector may hear an ALIVE besides. The connections of a view made their first calls in the order of its links. Each run has
 /// a clock of its own. A run that put no session is none of these.
 pub fn views_of_many_runs<C: Clock, L: Link>()
-    ensures honest { OfViewRuns C.gives (links_tell L.coming L.heard L.sent L.counts) KeepHonest }
-    ensures served { OfViewRuns C.gives (links_tell L.coming L.heard L.sent L.counts) ServesViews }
-    ensures done { OfViewRuns C.gives (links_tell L.coming L.heard L.sent L.counts) EndsViews }
+    ensures honest { OfViewRuns C.gives (links_tell L.Link) KeepHonest }
+    ensures served { OfViewRuns C.gives (links_tell L.Link) ServesViews }
+    ensures done { OfViewRuns C.gives (links_tell L.Link) EndsViews }
 {
     views_of_any_runs::<C, L>();
 }
@@ -83,14 +83,14 @@ pub fn views_of_many_runs<C: Clock, L: Link>()
 /// before it had left, the log of the last run is legal, and goes on from that of each run. It serves each connection of each run, and each
 /// TICK that was sent is at most its horizon.
 pub fn runs_live_on<C: Clock, L: Link>()
-    ensures { RunsLiveOn C.gives (links_tell L.coming L.heard L.sent L.counts) }
+    ensures { RunsLiveOn C.gives (links_tell L.Link) }
 {}
 
 /// What [`views_of_many_runs`] says is so too where runs ended in any way, and each went on from what the one before it had left.
 pub fn views_of_any_runs<C: Clock, L: Link>()
-    ensures honest { OfRunsOfViews C.gives (links_tell L.coming L.heard L.sent L.counts) KeepHonest }
-    ensures served { OfRunsOfViews C.gives (links_tell L.coming L.heard L.sent L.counts) ServesViews }
-    ensures done { OfRunsOfViews C.gives (links_tell L.coming L.heard L.sent L.counts) EndsViews }
+    ensures honest { OfRunsOfViews C.gives (links_tell L.Link) KeepHonest }
+    ensures served { OfRunsOfViews C.gives (links_tell L.Link) ServesViews }
+    ensures done { OfRunsOfViews C.gives (links_tell L.Link) EndsViews }
 {
     worlds_stand();
     views_replay();
@@ -102,7 +102,7 @@ pub fn views_of_any_runs<C: Clock, L: Link>()
 pub fn journals_leave<C: Clock, L: Link, S: Store>()
     ensures left { JournalsLeave C L S.bytes S.safe }
     ensures safe { SafeBytesLeave C L S.bytes S.safe }
-    ensures follow { JournalRunsFollow C.gives (links_tell L.coming L.heard L.sent L.counts) S.bytes S.safe }
+    ensures follow { JournalRunsFollow C.gives (links_tell L.Link) S.bytes S.safe }
 {
     own_records_are_read_first();
     safe_bytes_are_read();
@@ -110,8 +110,6 @@ pub fn journals_leave<C: Clock, L: Link, S: Store>()
 
 /// Each answer of `reflect` tells of a run, however it ended, and so does each of one that keeps a journal.
 pub fn answers_tell_of_runs<C: Clock, N: Net, S: Store>()
-    ensures alone { AnswersTellOfRuns C.gives (net_tells N.coming N.over N.asked N.faults N.lent N.link_counts)
-        (links_tell N.Conn.coming N.Conn.heard N.Conn.sent N.Conn.counts) }
-    ensures kept { KeptAnswersTellOfRuns C.gives (net_tells N.coming N.over N.asked N.faults N.lent N.link_counts)
-        (links_tell N.Conn.coming N.Conn.heard N.Conn.sent N.Conn.counts) S.bytes S.safe S.faults }
+    ensures alone { AnswersTellOfRuns C.gives (net_tells N.Net) (links_tell N.Conn.Link) }
+    ensures kept { KeptAnswersTellOfRuns C.gives (net_tells N.Net) (links_tell N.Conn.Link) S.bytes S.safe S.faults }
 {}

@@ -26,7 +26,8 @@ handling_of_word word =
     else None)
 
 abbrev pub publish_with : Option (List ℕ) → Option (List ℕ) → Option PlainValue → Option PlainLine
-publish_with (Some scope) (Some event) (Some value) = if payload_fits scope event value then Some (Publish scope event value) else None
+publish_with (Some scope) (Some event) (Some value) =
+    if payload_fits scope event value then Some (Publish scope event value) else None
 publish_with scope event value = None
 
 -- `SCOPE EVENT VALUE`
@@ -108,7 +109,8 @@ then_line (Some line) rest = then_lines (line ∷ []) rest
 -- the lines of these lines of text, where each that is not skipped is one
 abbrev pub lines_of : List (List ℕ) → Option (List PlainLine)
 lines_of [] = Some []
-lines_of (text ∷ more) = if is_skipped text then lines_of more else then_line (line_of (script_words_of text)) (lines_of more)
+lines_of (text ∷ more) = if is_skipped text then lines_of more
+    else then_line (line_of (script_words_of text)) (lines_of more)
 
 -- if not too many of them publish
 abbrev pub if_few : Option (List PlainLine) → Option (List PlainLine)

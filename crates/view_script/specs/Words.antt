@@ -23,7 +23,9 @@ with_byte byte (part ∷ parts) = (byte ∷ part) ∷ parts
 -- the parts of a line between the spaces that divide, some of them empty
 abbrev pub parts_from : Place → List ℕ → List LineWord
 parts_from place [] = [] ∷ []
-parts_from place (byte ∷ bytes) = if divides place byte then [] ∷ parts_from Outside bytes else with_byte byte (parts_from (next_place place byte) bytes)
+parts_from place (byte ∷ bytes) =
+    if divides place byte then [] ∷ parts_from Outside bytes
+    else with_byte byte (parts_from (next_place place byte) bytes)
 
 -- the parts that are not empty
 abbrev pub filled_parts : List LineWord → List LineWord

@@ -30,9 +30,11 @@ fn read_line(alloc: Global, text: &[u8]) -> Result<ViewLine, ScriptFault>
 /// Reads one line more.
 fn take_line(alloc: Global, text: &[u8], lines: &mut Vec<ViewLine>) -> Result<(), ScriptFault>
     ensures read { OnOk result ((more : List (List ℕ)) →
-        then_lines (plain_lines lines.new.items) (lines_of more) ≡ then_lines (plain_lines lines.old.items) (lines_of (text.now ∷ more))) }
+        then_lines (plain_lines lines.new.items) (lines_of more)
+        ≡ then_lines (plain_lines lines.old.items) (lines_of (text.now ∷ more))) }
     ensures bad { result ≡ Err ScriptFault.Bad → (more : List (List ℕ)) → lines_of (text.now ∷ more) ≡ None }
-    ensures fits { OnOk result (AllByRecursion LineFits (plain_lines lines.old.items) → AllByRecursion LineFits (plain_lines lines.new.items)) }
+    ensures fits { OnOk result (AllByRecursion LineFits (plain_lines lines.old.items)
+        → AllByRecursion LineFits (plain_lines lines.new.items)) }
 {
     if is_skipped(text) {
         return Ok(());
@@ -44,7 +46,8 @@ fn take_line(alloc: Global, text: &[u8], lines: &mut Vec<ViewLine>) -> Result<()
 
 /// The lines of a text, where each that is not skipped is one.
 fn read_lines(alloc: Global, script: &str) -> Result<Vec<ViewLine>, ScriptFault>
-    ensures read { Decodes ScriptFault.Bad (λ lines. plain_lines lines.items) result (lines_of (lines_of_text script.now)) }
+    ensures read { Decodes ScriptFault.Bad (λ lines. plain_lines lines.items) result
+        (lines_of (lines_of_text script.now)) }
     ensures fits { IfOk result (λ lines. AllByRecursion LineFits (plain_lines lines.items)) }
 {
     let texts = split_lines(alloc, script)?;
@@ -77,7 +80,8 @@ pub fn publish_count(lines: &[ViewLine]) -> usize
 
 /// The lines of a script that is text.
 pub fn read_text(alloc: Global, script: &str) -> Result<Vec<ViewLine>, ScriptFault>
-    ensures read { Decodes ScriptFault.Bad (λ lines. plain_lines lines.items) result (if_few (lines_of (lines_of_text script.now))) }
+    ensures read { Decodes ScriptFault.Bad (λ lines. plain_lines lines.items) result
+        (if_few (lines_of (lines_of_text script.now))) }
     ensures script { IfOk result (λ lines. IsViewScript (plain_lines lines.items)) }
 {
     let lines = read_lines(alloc, script)?;

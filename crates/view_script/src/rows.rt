@@ -127,7 +127,8 @@ fn vote(fields: &[&[u8]]) -> Result<ViewLine, ScriptFault>
 /// A line without fields.
 fn alone(line: ViewLine, fields: &[&[u8]]) -> Result<ViewLine, ScriptFault>
     requires { LineFits (plain_line line) }
-    ensures read { Decodes ScriptFault.Bad plain_line result (line_alone (plain_line line) (map (λ word. word.now) fields.now)) }
+    ensures read { Decodes ScriptFault.Bad plain_line result
+        (line_alone (plain_line line) (map (λ word. word.now) fields.now)) }
     ensures fits { IfOk result (λ line. LineFits (plain_line line)) }
 {
     if fields.is_empty() {

@@ -72,7 +72,8 @@ fn behind_first(bytes: &[u8]) -> &[u8]
 
 /// Adds a part of a line to its words, if the part is not empty.
 fn push_part<'a>(words: &mut Vec<&'a [u8]>, part: &'a [u8]) -> Result<(), WantOfMemory>
-    ensures { OnOk result (map (λ word. word.now) words.new.items ≡ map (λ word. word.now) words.old.items ++ filled_parts (part.now ∷ [])) }
+    ensures { OnOk result (map (λ word. word.now) words.new.items ≡ map (λ word. word.now) words.old.items
+        ++ filled_parts (part.now ∷ [])) }
 {
     if !part.is_empty() {
         push(words, part)?;

@@ -6,7 +6,7 @@ use Rattle.replica.specs.View.{ReplicaView, with_plain, worlds_of}
 use Rattle.replica_plain.specs.Calls.{join_frame, joining, unsent}
 use Rattle.replica_plain.specs.declared.how.How.{How}
 use Rattle.replica_plain.specs.declared.how.How.TheVariants.{Fresh, Whole, Resume}
-use Rattle.run_steps.specs.Outside.{Outside, OutputTells, LinksTell, Acts, window, window_tells}
+use Rattle.run_steps.specs.Outside.{Outside, OutputTells, LinksTell, Acts, link_side, link_side_tells}
 use Rattle.view_script.specs.PlainLine.{PlainLine}
 use Rattle.view_shell.specs.declared.ending.ViewEnd.{ViewEnd}
 use Rattle.view_shell.specs.declared.ending.ViewEnd.TheVariants as ending
@@ -17,17 +17,17 @@ use Rattle.view_shell.specs.Phases.{Viewer, Phase, Receives, Receiving, Sending,
 use Rattle.view_shell.specs.Viewers.{viewer}
 use Rattle.view_shell.specs.Flows.{bad_base_answer, departure_phase}
 use Rattle.view_shell.specs.Hearing.{rejoined_text, synced_phase}
-use Rattle.view_shell.specs.ViewRun.{Doing, Goes, LinkActs, Stops}
-use Rattle.view_shell.proofs.Going.{all_acts_behind, goes_and_stops, goes_from, goes_in_window, goes_on, goes_to, reaches_end}
+use Rattle.view_shell.specs.ViewRun.{Doing, Goes, GoesOrStops, LinkActs, Stops}
+use Rattle.view_shell.proofs.Going.{all_acts_behind, goes_from, goes_in_link_side, goes_on, goes_or_stops_on, goes_to, reaches_end}
 use Rattle.view_shell.proofs.Printings.{prints_nothing, printed_goes}
 use Rattle.view_shell.proofs.Readiness.{viewer_joined}
 
 -- the script of a view that joined begins; nothing is printed before
-pub begins : {W L : Type 0} (out : OutputTells W) (links : LinksTell L) (w : W) (l : L) (v : Viewer) (how : How) (found : Synced) → (how ≡ Fresh) ⊎ (how ≡ Whole) → Goes (Acts (window_tells out links)) (synced_phase v how found) (run v v.lines) (window w l) (window w l)
+pub begins : {W L : Type 0} (out : OutputTells W) (links : LinksTell L) (w : W) (l : L) (v : Viewer) (how : How) (found : Synced) → (how ≡ Fresh) ⊎ (how ≡ Whole) → Goes (Acts (link_side_tells out links)) (synced_phase v how found) (run v v.lines) (link_side w l) (link_side w l)
 begins {W = W} {L = L} out links w l v how found (inl is) =
-    subst (λ (h : How). Goes (Acts (window_tells out links)) (synced_phase v h found) (run v v.lines) (window w l) (window w l)) (sym is) (printed_goes out links l w w v [] (prints_nothing out w))
+    subst (λ (h : How). Goes (Acts (link_side_tells out links)) (synced_phase v h found) (run v v.lines) (link_side w l) (link_side w l)) (sym is) (printed_goes out links l w w v [] (prints_nothing out w))
 begins {W = W} {L = L} out links w l v how found (inr is) =
-    subst (λ (h : How). Goes (Acts (window_tells out links)) (synced_phase v h found) (run v v.lines) (window w l) (window w l)) (sym is) (printed_goes out links l w w v [] (prints_nothing out w))
+    subst (λ (h : How). Goes (Acts (link_side_tells out links)) (synced_phase v h found) (run v v.lines) (link_side w l) (link_side w l)) (sym is) (printed_goes out links l w w v [] (prints_nothing out w))
 
 -- a base that is none
 pub base_flows : {S : Type 0} (does : Doing S) (from : Phase) (v : List PlainLine → Viewer) (lines : List PlainLine) (how : How) (old new : S) (answer : Result Departure ViewEnd) → answer ≡ bad_base_answer how
@@ -68,14 +68,11 @@ module _ {W L : Type 0} (out : OutputTells W) (links : LinksTell L) (address : L
   abbrev pub script : Phase
   script = run (viewer address w2 lines) lines
 
-  module _ (o : W) (l l' : L) (begun new : Outside ⊤ W ⊤ L) (joins : Goes (LinkActs links) start met l l') (begins_there : Goes (Acts (window_tells out links)) met script (window o l') begun) where
-    joined_and_begun : Goes (Acts (window_tells out links)) start script (window o l) begun
+  module _ (o : W) (l l' : L) (begun new : Outside ⊤ W ⊤ L) (joins : Goes (LinkActs links) start met l l') (begins_there : Goes (Acts (link_side_tells out links)) met script (link_side o l') begun) where
+    joined_and_begun : Goes (Acts (link_side_tells out links)) start script (link_side o l) begun
     joined_and_begun =
-        goes_on (Acts (window_tells out links)) (all_acts_behind (window_tells out links)) start met script (window o l) (window o l') begun
-        (goes_in_window out links o start met l l' joins) begins_there
+        goes_on (Acts (link_side_tells out links)) (all_acts_behind (link_side_tells out links)) start met script (link_side o l) (link_side o l') begun
+        (goes_in_link_side out links o start met l l' joins) begins_there
 
-    pub begun_goes : (to : Phase) → Goes (Acts (window_tells out links)) script to begun new → Goes (Acts (window_tells out links)) start to (window o l) new
-    begun_goes to goes = goes_on (Acts (window_tells out links)) (all_acts_behind (window_tells out links)) start script to (window o l) begun new joined_and_begun goes
-
-    pub begun_stops : (end : ViewEnd) → Stops (Acts (window_tells out links)) script end begun new → Stops (Acts (window_tells out links)) start end (window o l) new
-    begun_stops end stops = goes_and_stops (Acts (window_tells out links)) (all_acts_behind (window_tells out links)) start script end (window o l) begun new joined_and_begun stops
+    pub begun_flows : {A : Type 0} (to : A → Phase) (r : Result A ViewEnd) → GoesOrStops (Acts (link_side_tells out links)) script to r begun new → GoesOrStops (Acts (link_side_tells out links)) start to r (link_side o l) new
+    begun_flows to r flows = goes_or_stops_on (Acts (link_side_tells out links)) (all_acts_behind (link_side_tells out links)) start script to r (link_side o l) begun new joined_and_begun flows

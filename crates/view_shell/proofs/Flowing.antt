@@ -2,15 +2,16 @@
 use Rattle.std.proofs.Common.{◌≡◌, ℕ, List, Ok, Err, sym, subst}
 use Rattle.std.specs.Prelude.{⊤, Result, OnOk, IfErr, MatchResult}
 use Rattle.replica_plain.specs.Calls.{takes_out}
-use Rattle.run_steps.specs.Outside.{OutputTells, LinksTell, Well, Acts, PrintsText, window, window_tells}
+use Rattle.run_steps.specs.Outside.{OutputTells, LinksTell, Well, Acts, PrintsText, link_side, link_side_tells}
 use Rattle.view_script.specs.PlainLine.{PlainLine}
 use Rattle.view_shell.specs.declared.ending.ViewEnd.{ViewEnd}
+use Rattle.view_shell.specs.declared.ending.ViewEnd.TheVariants as ending
 use Rattle.view_shell.specs.declared.lines.LineOutcome.{LineOutcome}
-use Rattle.view_shell.specs.Phases.{Viewer, Phase, after_rest, after_telling, finish, run, show_world, shown_text, world_text}
+use Rattle.view_shell.specs.Phases.{Viewer, Phase, Over, PrintingLast, after_rest, after_telling, finish, run, show_world, shown_text, world_text}
 use Rattle.view_shell.specs.Flows.{flow_of, flow_phase}
-use Rattle.view_shell.specs.ViewRun.{Doing, Goes, Stops, StopsPrinting}
+use Rattle.view_shell.specs.ViewRun.{Doing, Goes, GoesOrStops, LinkActs, Stops, StopsPrinting}
 use Rattle.view_shell.proofs.Going.{Follows, goes_and_stops, goes_on}
-use Rattle.view_shell.proofs.Printings.{finish_stops, finished_goes, show_stops, showed_goes}
+use Rattle.view_shell.proofs.Printings.{finish_stops, finished_goes, last_goes, last_stops, line_goes, line_stops, show_stops, showed_goes}
 
 -- a line leads from this phase to the next line, or stops
 abbrev pub Done : {S : Type 0} → Doing S → Phase → Viewer → List PlainLine → S → S → Result ⊤ ViewEnd → Type 0
@@ -41,7 +42,7 @@ done_behind does follows from mid v lines old now new (Err end) first stops = go
 -- a text was told, or not
 pub done_printing : {W L : Type 0} (out : OutputTells W) (links : LinksTell L) (l : L) (w w' : W) (v v' : Viewer) (text : List ℕ) (done : Result ⊤ ViewEnd)
     → OnOk done (v' ≡ record v { replica = takes_out v.replica }) → OnOk done (PrintsText out Well (shown_text v text) w w') → IfErr done (λ end. StopsPrinting out end (shown_text v text) w w')
-    → Done (Acts (window_tells out links)) (finish v text) v' v'.lines (window w l) (window w' l) done
+    → Done (Acts (link_side_tells out links)) (finish v text) v' v'.lines (link_side w l) (link_side w' l) done
 done_printing out links l w w' v v' text (Ok it) is prints never = finished_goes out links l w w' v v' text is prints
 done_printing out links l w w' v v' text (Err end) is prints stops = finish_stops out links l w w' v text end stops
 
@@ -49,6 +50,20 @@ done_printing out links l w w' v v' text (Err end) is prints stops = finish_stop
 pub done_showing : {W L : Type 0} (out : OutputTells W) (links : LinksTell L) (l : L) (w w' : W) (v v' : Viewer) (done : Result ⊤ ViewEnd)
     → OnOk done (v' ≡ after_telling (after_rest v)) → OnOk done (PrintsText out Well (shown_text (after_rest v) (world_text (after_rest v))) w w')
     → IfErr done (λ end. StopsPrinting out end (shown_text (after_rest v) (world_text (after_rest v))) w w')
-    → Done (Acts (window_tells out links)) (show_world v) v' v'.lines (window w l) (window w' l) done
+    → Done (Acts (link_side_tells out links)) (show_world v) v' v'.lines (link_side w l) (link_side w' l) done
 done_showing out links l w w' v v' (Ok it) is prints never = showed_goes out links l w w' v v' is prints
 done_showing out links l w w' v v' (Err end) is prints stops = show_stops out links l w w' v end stops
+
+-- what a link does, and then a text that was told, or not
+pub line_done : {W L : Type 0} (out : OutputTells W) (links : LinksTell L) (from : Phase) (w w' : W) (l l' : L) (v v' : Viewer) (text : List ℕ) (done : Result ⊤ ViewEnd)
+    → OnOk done (v' ≡ record v { replica = takes_out v.replica }) → Goes (LinkActs links) from (finish v text) l l' → OnOk done (PrintsText out Well (shown_text v text) w w') → IfErr done (λ end. StopsPrinting out end (shown_text v text) w w')
+    → Done (Acts (link_side_tells out links)) from v' v'.lines (link_side w l) (link_side w' l') done
+line_done out links from w w' l l' v v' text (Ok it) is goes prints never = line_goes out links from w w' l l' v v' text is goes prints
+line_done out links from w w' l l' v v' text (Err end) is goes prints stops = line_stops out links from w w' l l' v text end goes stops
+
+-- and then the last text, or not
+pub last_done : {W L : Type 0} (out : OutputTells W) (links : LinksTell L) (from : Phase) (w w' : W) (l l' : L) (text : List ℕ) (done : Result ⊤ ViewEnd)
+    → Goes (LinkActs links) from (PrintingLast text) l l' → OnOk done (PrintsText out Well text w w') → IfErr done (λ end. StopsPrinting out end text w w')
+    → GoesOrStops (Acts (link_side_tells out links)) from (λ it. Over ending.Done) done (link_side w l) (link_side w' l')
+last_done out links from w w' l l' text (Ok it) goes prints never = last_goes out links from w w' l l' text goes prints
+last_done out links from w w' l l' text (Err end) goes prints stops = last_stops out links from w w' l l' text end goes stops

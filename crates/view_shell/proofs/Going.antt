@@ -1,24 +1,25 @@
 -- Runs that follow one another, and the steps of a link among those of an output and a link.
-use Rattle.std.proofs.Common.{◌≡◌, inl, inr, ℕ, zero, suc, ◌+◌, ◌-◌, ◌<◌, ◌==◌, Bool, true, false, if◌then◌else◌, List, [], ◌∷◌, ◌++◌, length, drop, get_or, Option, Some, None, refl, sym, ap, ◌∙◌, subst, arith}
+use Rattle.std.proofs.Common.{◌≡◌, inl, inr, ℕ, zero, suc, ◌+◌, ◌-◌, ◌<◌, ◌==◌, Bool, true, false, if◌then◌else◌, List, [], ◌∷◌, ◌++◌, length, drop, get_or, Option, Some, None, Ok, Err, refl, sym, ap, ◌∙◌, subst, arith}
 use Rattle.std.specs.List.{AllByRecursion}
-use Rattle.std.specs.Prelude.{◌⊎◌}
+use Rattle.std.specs.Prelude.{⊤, ◌⊎◌, Result, IsErrAnd, OnOk}
 use Rattle.std.proofs.lemmas.Option.{none-some}
+use Rattle.std.proofs.lemmas.Result.{err_from_is_err_and}
 use Rattle.std.proofs.lemmas.List.{at_drop_more}
 use Rattle.wire_frames.specs.declared.frame.ClientFrame.{ClientFrame}
 use Rattle.wire_frames.specs.declared.frame.ClientFrame.TheVariants as client
-use Rattle.wire_frames.specs.Frames.{IsClientFrame}
+use Rattle.wire_frames.specs.Frames.{FitsClient, IsClientFrame}
 use Rattle.wire_frames.specs.Spelling.{client_spelling}
 use Rattle.world_plain.specs.Messages.{PlainOutgoing}
 use Rattle.world_plain.specs.World.{WorldRecord}
 use Rattle.replica_plain.specs.PlainReplica.{PlainReplica}
 use Rattle.replica_plain.specs.Calls.{sends_after, unsent}
 use Rattle.run_steps.specs.Steps.{Step, Loads, Puts, Looks, Prints, Connects, Returns, Hears, Sends}
-use Rattle.run_steps.specs.Outside.{Outside, OutsideTells, OutputTells, LinksTell, Came, Well, Failed, WantedMemory, Cut, Acts, ActsOn, SendsFrame, window, window_tells}
+use Rattle.run_steps.specs.Outside.{Outside, OutsideTells, OutputTells, LinksTell, Came, Well, Failed, WantedMemory, Cut, Acts, ActsOn, SendsFrame, link_side, link_side_tells}
 use Rattle.run_steps.proofs.Joined.{acts_behind}
 use Rattle.view_shell.specs.declared.ending.ViewEnd.{ViewEnd}
 use Rattle.view_shell.specs.declared.ending.ViewEnd.TheVariants as ending
 use Rattle.view_shell.specs.Phases.{IsReadAsWorld, Phase, Viewer, Task, Sending, Over, Walks, go_on, most_receives, send_all}
-use Rattle.view_shell.specs.ViewRun.{Doing, Goes, Stops, IsCutEnd, ActsOnLink, LinkActs}
+use Rattle.view_shell.specs.ViewRun.{Doing, Goes, GoesOrStops, Stops, IsCutEnd, ActsOnLink, LinkActs}
 
 -- ---- one after the other
 
@@ -113,28 +114,28 @@ module _ {L : Type 0} (links : LinksTell L) (v : Viewer) (frame : ClientFrame) (
 -- ---- a link's steps among those of an output and a link
 
 module _ {W L : Type 0} (out : OutputTells W) (links : LinksTell L) (w : W) where
-  acts_on_window : (came : Came) (step : Step) (old new : L) → ActsOnLink links came step old new → ActsOn (window_tells out links) came step (window w old) (window w new)
-  acts_on_window came (Hears what) old new hears = (hears, refl)
-  acts_on_window came (Sends frame) old new sends = (sends, refl)
-  acts_on_window came (Loads ask given) old new never = absurd never
-  acts_on_window came (Puts name bytes) old new never = absurd never
-  acts_on_window came (Looks name) old new never = absurd never
-  acts_on_window came (Prints text) old new never = absurd never
-  acts_on_window came (Connects address) old new never = absurd never
-  acts_on_window came Returns old new never = absurd never
+  acts_on_link_side : (came : Came) (step : Step) (old new : L) → ActsOnLink links came step old new → ActsOn (link_side_tells out links) came step (link_side w old) (link_side w new)
+  acts_on_link_side came (Hears what) old new hears = (hears, refl)
+  acts_on_link_side came (Sends frame) old new sends = (sends, refl)
+  acts_on_link_side came (Loads ask given) old new never = absurd never
+  acts_on_link_side came (Puts name bytes) old new never = absurd never
+  acts_on_link_side came (Looks name) old new never = absurd never
+  acts_on_link_side came (Prints text) old new never = absurd never
+  acts_on_link_side came (Connects address) old new never = absurd never
+  acts_on_link_side came Returns old new never = absurd never
 
-  pub acts_in_window : (steps : List Step) (cut : Option Cut) (old new : L) → LinkActs links steps cut old new → Acts (window_tells out links) steps cut (window w old) (window w new)
-  acts_in_window [] None old new kept = ap (window w) kept
-  acts_in_window [] (Some cut) old new never = absurd never
-  acts_in_window (step ∷ steps) cut old new (inl (mid, acts, rest)) = inl (window w mid, acts_on_window Well step old mid acts, acts_in_window steps cut mid new rest)
-  acts_in_window (step ∷ steps) cut old new (inr (inl (acts, is))) = inr (inl (acts_on_window Failed step old new acts, is))
-  acts_in_window (step ∷ steps) cut old new (inr (inr (acts, is))) = inr (inr (acts_on_window WantedMemory step old new acts, is))
+  pub acts_in_link_side : (steps : List Step) (cut : Option Cut) (old new : L) → LinkActs links steps cut old new → Acts (link_side_tells out links) steps cut (link_side w old) (link_side w new)
+  acts_in_link_side [] None old new kept = ap (link_side w) kept
+  acts_in_link_side [] (Some cut) old new never = absurd never
+  acts_in_link_side (step ∷ steps) cut old new (inl (mid, acts, rest)) = inl (link_side w mid, acts_on_link_side Well step old mid acts, acts_in_link_side steps cut mid new rest)
+  acts_in_link_side (step ∷ steps) cut old new (inr (inl (acts, is))) = inr (inl (acts_on_link_side Failed step old new acts, is))
+  acts_in_link_side (step ∷ steps) cut old new (inr (inr (acts, is))) = inr (inr (acts_on_link_side WantedMemory step old new acts, is))
 
-  pub goes_in_window : (p q : Phase) (old new : L) → Goes (LinkActs links) p q old new → Goes (Acts (window_tells out links)) p q (window w old) (window w new)
-  goes_in_window p q old new goes = record { steps = goes.steps; walks = goes.walks; acts = acts_in_window goes.steps None old new goes.acts }
+  pub goes_in_link_side : (p q : Phase) (old new : L) → Goes (LinkActs links) p q old new → Goes (Acts (link_side_tells out links)) p q (link_side w old) (link_side w new)
+  goes_in_link_side p q old new goes = record { steps = goes.steps; walks = goes.walks; acts = acts_in_link_side goes.steps None old new goes.acts }
 
-  pub stops_in_window : (p : Phase) (end : ViewEnd) (old new : L) → Stops (LinkActs links) p end old new → Stops (Acts (window_tells out links)) p end (window w old) (window w new)
-  stops_in_window p end old new stops = record { steps = stops.steps; last = stops.last; cut = stops.cut; walks = stops.walks; acts = acts_in_window stops.steps stops.cut old new stops.acts; ends = stops.ends }
+  pub stops_in_link_side : (p : Phase) (end : ViewEnd) (old new : L) → Stops (LinkActs links) p end old new → Stops (Acts (link_side_tells out links)) p end (link_side w old) (link_side w new)
+  stops_in_link_side p end old new stops = record { steps = stops.steps; last = stops.last; cut = stops.cut; walks = stops.walks; acts = acts_in_link_side stops.steps stops.cut old new stops.acts; ends = stops.ends }
 
 -- ---- frames in a row
 
@@ -148,6 +149,12 @@ pub read_at : (v : Viewer) (frames : List ClientFrame) (i : ℕ) (frame : Client
 read_at v [] i frame reads within is = absurd (omega (arith, within))
 read_at v (first ∷ frames) zero frame reads within is = subst (IsReadAsWorld v) (sym is) reads.0
 read_at v (first ∷ frames) (suc i) frame reads within is = read_at v frames i frame reads.1 (omega (arith, within)) is
+
+-- and fits its fields, where each does
+pub fits_at : (frames : List ClientFrame) (i : ℕ) (frame : ClientFrame) → AllByRecursion FitsClient frames → i < length frames → frame ≡ get_or frames i frame → FitsClient frame
+fits_at [] i frame fit within is = absurd (omega (arith, within))
+fits_at (first ∷ frames) zero frame fit within is = subst FitsClient (sym is) fit.0
+fits_at (first ∷ frames) (suc i) frame fit within is = fits_at frames i frame fit.1 (omega (arith, within)) is
 
 sends_read : (v : Viewer) (number : ℕ) (payloads : List (List ℕ)) → AllByRecursion (IsReadAsWorld v) (sends_after number payloads)
 sends_read v number [] = tt
@@ -164,3 +171,24 @@ unsent_read v r = read_if v r.synced _ (sends_read v r.given (drop (r.given - r.
 -- a view that is due to say that it is alive
 pub alive_now : (v : Viewer) (frames : List ClientFrame) (task : Task) → v.receives ≡ most_receives → go_on v frames task ≡ Sending v client.Alive frames task
 alive_now v frames task is = ap (λ (n : ℕ). send_all v ((if n == most_receives then client.Alive ∷ [] else []) ++ frames) task) is
+
+-- ---- answers that are handed on
+
+-- what a `?` hands on
+pub handed_on : {A E : Type 0} (r : Result A E) (end : E) → IsErrAnd r (λ e. e ≡ end) → r ≡ Err end
+handed_on {E = E} r end handed = let given = err_from_is_err_and r handed in given.1 ∙ ap (λ (e : E). Err e) given.2
+
+-- the last call's answer, behind what was done before
+pub goes_or_stops_on : {S A : Type 0} (does : Doing S) (follows : Follows does) (p q : Phase) (to : A → Phase) (r : Result A ViewEnd) (old mid new : S) → Goes does p q old mid → GoesOrStops does q to r mid new → GoesOrStops does p to r old new
+goes_or_stops_on does follows p q to (Ok answer) old mid new first goes = goes_on does follows p q (to answer) old mid new first goes
+goes_or_stops_on does follows p q to (Err end) old mid new first stops = goes_and_stops does follows p q end old mid new first stops
+
+-- and from a phase that is the same
+pub goes_or_stops_from : {S A : Type 0} (does : Doing S) (p p' : Phase) (to : A → Phase) (r : Result A ViewEnd) (old new : S) → p ≡ p' → GoesOrStops does p' to r old new → GoesOrStops does p to r old new
+goes_or_stops_from does p p' to r old new is there = subst (λ (from : Phase). GoesOrStops does from to r old new) (sym is) there
+
+-- a count that is none behind an answer that is well
+pub goes_or_stops_sent : {S : Type 0} (does : Doing S) (p : Phase) (v : Viewer) (n : ℕ) (frames : List ClientFrame) (task : Task) (r : Result ⊤ ViewEnd) (old new : S) → OnOk r (n ≡ 0)
+    → GoesOrStops does p (λ it. send_all (record v { receives = 0 }) frames task) r old new → GoesOrStops does p (λ it. send_all (record v { receives = n }) frames task) r old new
+goes_or_stops_sent does p v n frames task (Ok it) old new is goes = goes_to does p _ _ old new (ap (λ (k : ℕ). send_all (record v { receives = k }) frames task) (sym is)) goes
+goes_or_stops_sent does p v n frames task (Err end) old new is stops = stops

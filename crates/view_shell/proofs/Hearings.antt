@@ -1,5 +1,6 @@
 -- What comes of hearing a link once.
-use Rattle.std.proofs.Common.{◌≡◌, inl, inr, ℕ, ◌==◌, Bool, true, false, if◌then◌else◌, List, [], ◌∷◌, Option, Some, None, refl, sym, ap, subst}
+use Rattle.std.proofs.Common.{◌≡◌, inl, inr, ℕ, ◌==◌, Bool, true, false, if◌then◌else◌, List, [], ◌∷◌, Option, Some, None, Ok, Err, refl, sym, ap, subst}
+use Rattle.std.specs.Prelude.{MatchResult, Result}
 use Rattle.byte_fields.specs.Fields.{whole}
 use Rattle.tea_io.specs.declared.link.Heard.{Heard}
 use Rattle.tea_io.specs.declared.link.Heard.TheVariants as heard
@@ -202,6 +203,12 @@ module _ {S : Type 0} (does : Doing S) (v : Viewer) (n : ℕ) (old new : S) wher
 pub goes_and_hears : {S : Type 0} (does : Doing S) (follows : Follows does) (why : Stop) (from mid : Phase) (v : Viewer) (aim : Aim) (old now new : S) → Goes does from mid old now → StopsHearing does why mid v aim now new → StopsHearing does why from v aim old new
 goes_and_hears does follows (stop.End end) from mid v aim old now new first then_stops = goes_and_stops does follows from mid end old now new first then_stops
 goes_and_hears does follows stop.BadBase from mid v aim old now new first then_stops = goes_on does follows from mid (bad_base v aim) old now new first then_stops
+
+-- and whatever is answered
+pub goes_or_hears : {S A : Type 0} (does : Doing S) (follows : Follows does) (from mid : Phase) (to : A → Phase) (v : Viewer) (aim : Aim) (r : Result A Stop) (old now new : S) → Goes does from mid old now
+    → MatchResult r (λ a. Goes does mid (to a) now new) (λ why. StopsHearing does why mid v aim now new) → MatchResult r (λ a. Goes does from (to a) old new) (λ why. StopsHearing does why from v aim old new)
+goes_or_hears does follows from mid to v aim (Ok a) old now new first goes = goes_on does follows from mid (to a) old now new first goes
+goes_or_hears does follows from mid to v aim (Err why) old now new first stops = goes_and_hears does follows why from mid v aim old now new first stops
 
 -- the same, said of one link
 pub hears_as : {L : Type 0} (links : LinksTell L) (why : Stop) (from : Phase) (v : Viewer) (aim : Aim) (old new : L) → StopsHearing (LinkActs links) why from v aim old new → StopsHearing (LinkActs links) why from v aim old new

@@ -1,6 +1,8 @@
--- A replica that takes a frame keeps its view and the number of events that it published.
+-- A replica that takes a frame keeps its view and the number of events that it published, and a whole one has no fault but one at a tick of its
+-- own time.
 use Rattle.std.proofs.Common.{◌≡◌, ℕ, suc, ◌+◌, ◌==◌, Bool, true, false, if◌then◌else◌, List, [], ◌∷◌, length, Option, Some, None, refl, sym, ap, subst, arith}
 use Rattle.std.specs.Prelude.{nat_le, nat_lt, ⊤, Result, Ok, Err}
+use Rattle.std.proofs.lemmas.Bool.Decides.{nat_tests}
 use Rattle.std.proofs.lemmas.Option.{none-some, same_Some}
 use Rattle.tea_base.specs.declared.entry.Entry.{Entry}
 use Rattle.wire_frames.specs.declared.start.Base.{Base}
@@ -25,6 +27,11 @@ keeps_all r = record { view = refl; published = refl }
 if_keeps : {W O : Type 0} (r : PlainReplica W O) (test : Bool) (a b : Taken W O) → Keeps r a.replica → Keeps r b.replica → Keeps r (if test then a else b).replica
 if_keeps r true a b first second = first
 if_keeps r false a b first second = second
+
+-- a frame that was not asked for
+abbrev pub IsUnasked : ReplicaFault → Type 0
+IsUnasked cause.Unasked = Unit {0}
+IsUnasked other = ⊥
 
 module _ {W O : Type 0} (m : Worlds W O) (r : PlainReplica W O) where
   anew_keeps : (from : ℕ) → Keeps r (begins_anew m r from).replica
@@ -104,3 +111,14 @@ module _ {W O : Type 0} (m : Worlds W O) (r : PlainReplica W O) where
   is_taken_keeps frame new (Err cause.BadBase) (faulty, is) = from_table frame new is
   is_taken_keeps frame new (Err cause.Broken) (faulty, is) = from_table frame new is
   is_taken_keeps frame new (Err (cause.Refused about code kept)) (faulty, is) = from_table frame new is
+
+  tick_by : (synced : Bool) (fault : ReplicaFault) → r.synced ≡ synced → r.broken ≡ false → (taken m r (Tick (m.time r.world))).fault ≡ Some fault → fault ≡ cause.Unasked
+  tick_by true fault is whole found =
+      let back : nat_lt (m.time r.world) (m.time r.world) ≡ false = grind (arith, nat_tests) in
+      absurd (none-some fault (rw (is, whole, back) at found))
+  tick_by false fault is whole found = sym (same_Some cause.Unasked fault (rw is at found))
+
+  -- a tick of a whole replica's own time has no fault but that the replica has not joined
+  pub own_tick : (time : ℕ) (fault : ReplicaFault) → time ≡ m.time r.world → r.broken ≡ false → (taken m r (Tick time)).fault ≡ Some fault → IsUnasked fault
+  own_tick time fault timed whole found =
+      subst IsUnasked (sym (tick_by r.synced fault refl whole (subst (λ (t : ℕ). (taken m r (Tick t)).fault ≡ Some fault) timed found))) tt

@@ -2,7 +2,6 @@ pub mod Texts
 pub mod Going
 pub mod Keeping
 pub mod Readiness
-pub mod OwnSnapshots
 pub mod Hearings
 pub mod Reaching
 pub mod Voting

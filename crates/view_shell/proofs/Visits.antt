@@ -3,7 +3,7 @@ use Rattle.std.proofs.Common.{◌≡◌, inl, inr, ℕ, List, [], ◌∷◌, Som
 use Rattle.std.specs.Prelude.{⊤}
 use Rattle.replica_plain.specs.declared.how.How.{How}
 use Rattle.run_steps.specs.Steps.{Connects, Returns}
-use Rattle.run_steps.specs.Outside.{Outside, OutsideTells, OutputTells, LinksTell, NetTells, Well, Failed, WantedMemory, Acts, MakesLink, TakesBack, booth, booth_tells, window, window_tells}
+use Rattle.run_steps.specs.Outside.{Outside, OutsideTells, OutputTells, LinksTell, NetTells, Well, Failed, WantedMemory, Acts, MakesLink, TakesBack, net_side, net_side_tells, link_side, link_side_tells}
 use Rattle.run_steps.proofs.Beside.{all_with_net}
 use Rattle.view_shell.specs.declared.ending.ViewEnd.{ViewEnd}
 use Rattle.view_shell.specs.declared.ending.ViewEnd.TheVariants as ending
@@ -31,36 +31,36 @@ unmade fault.WantOfMemory = ending.WantOfMemory
 
 module _ {W N L : Type 0} (out : OutputTells W) (net : NetTells N L) (links : LinksTell L) where
   abbrev pub In : OutsideTells ⊤ W N L
-  In = booth_tells out net links
+  In = net_side_tells out net links
 
   -- on one link
-  pub goes_in_booth : (p q : Phase) (n : N) (w w' : W) (l l' : L) → Goes (Acts (window_tells out links)) p q (window w l) (window w' l') → Goes (Acts In) p q (booth w n (Some l)) (booth w' n (Some l'))
-  goes_in_booth p q n w w' l l' goes = record {
+  pub goes_in_net_side : (p q : Phase) (n : N) (w w' : W) (l l' : L) → Goes (Acts (link_side_tells out links)) p q (link_side w l) (link_side w' l') → Goes (Acts In) p q (net_side w n (Some l)) (net_side w' n (Some l'))
+  goes_in_net_side p q n w w' l l' goes = record {
     steps = goes.steps;
     walks = goes.walks;
-    acts = all_with_net net (window_tells out links) n refl goes.steps None (window w l) (window w' l') goes.acts;
+    acts = all_with_net net (link_side_tells out links) n refl goes.steps None (link_side w l) (link_side w' l') goes.acts;
   }
 
-  pub stops_in_booth : (p : Phase) (end : ViewEnd) (n : N) (w w' : W) (l l' : L) → Stops (Acts (window_tells out links)) p end (window w l) (window w' l') → Stops (Acts In) p end (booth w n (Some l)) (booth w' n (Some l'))
-  stops_in_booth p end n w w' l l' stops = record {
+  pub stops_in_net_side : (p : Phase) (end : ViewEnd) (n : N) (w w' : W) (l l' : L) → Stops (Acts (link_side_tells out links)) p end (link_side w l) (link_side w' l') → Stops (Acts In) p end (net_side w n (Some l)) (net_side w' n (Some l'))
+  stops_in_net_side p end n w w' l l' stops = record {
     steps = stops.steps;
     last = stops.last;
     cut = stops.cut;
     walks = stops.walks;
     ends = stops.ends;
-    acts = all_with_net net (window_tells out links) n refl stops.steps stops.cut (window w l) (window w' l') stops.acts;
+    acts = all_with_net net (link_side_tells out links) n refl stops.steps stops.cut (link_side w l) (link_side w' l') stops.acts;
   }
 
   -- a link is made, or not
-  pub connects_goes : (v : Viewer) (how : How) (address : List ℕ) (w : W) (n n' : N) (l : L) → address ≡ v.address → MakesLink net links Well address n n' (Some l) → Goes (Acts In) (Connecting v how) (enter_session v how) (booth w n None) (booth w n' (Some l))
+  pub connects_goes : (v : Viewer) (how : How) (address : List ℕ) (w : W) (n n' : N) (l : L) → address ≡ v.address → MakesLink net links Well address n n' (Some l) → Goes (Acts In) (Connecting v how) (enter_session v how) (net_side w n None) (net_side w n' (Some l))
   connects_goes v how address w n n' l is makes = record {
     steps = Connects address ∷ [];
     walks = (enter_session v how, (is, refl), refl);
-    acts = inl (booth w n' (Some l), (refl, makes, refl), refl);
+    acts = inl (net_side w n' (Some l), (refl, makes, refl), refl);
   }
 
   pub connect_stops : (v : Viewer) (how : How) (address : List ℕ) (w : W) (n n' : N) (why : CallFault) → address ≡ v.address → MakesLink net links (came_of {T = L} (Err why)) address n n' None
-      → Stops (Acts In) (Connecting v how) (unmade why) (booth w n None) (booth w n' None)
+      → Stops (Acts In) (Connecting v how) (unmade why) (net_side w n None) (net_side w n' None)
   connect_stops v how address w n n' fault.Failed is makes = record {
     steps = Connects address ∷ [];
     last = enter_session v how;
@@ -79,19 +79,19 @@ module _ {W N L : Type 0} (out : OutputTells W) (net : NetTells N L) (links : Li
   }
 
   -- it is given back, and another one is made
-  pub returns_goes : (v : Viewer) (how : How) (w : W) (n n' : N) (l : L) → TakesBack net links l n n' → Goes (Acts In) (Returning v how) (Connecting v how) (booth w n (Some l)) (booth w n' None)
+  pub returns_goes : (v : Viewer) (how : How) (w : W) (n n' : N) (l : L) → TakesBack net links l n n' → Goes (Acts In) (Returning v how) (Connecting v how) (net_side w n (Some l)) (net_side w n' None)
   returns_goes v how w n n' l takes = record {
     steps = Returns ∷ [];
     walks = (Connecting v how, refl, refl);
-    acts = inl (booth w n' None, (refl, takes, refl), refl);
+    acts = inl (net_side w n' None, (refl, takes, refl), refl);
   }
 
   -- the run is over, and the link goes back
-  pub over_with_link : (p : Phase) (end : ViewEnd) (o : Outside ⊤ W N L) (w : W) (n n' : N) (l : L) → Stops (Acts In) p end o (booth w n (Some l)) → TakesBack net links l n n' → ViewRan In p end o (booth w n' None)
-  over_with_link p end o w n n' l stops takes = record { mid = booth w n (Some l); stops = stops; back = (refl, takes, refl) }
+  pub over_with_link : (p : Phase) (end : ViewEnd) (o : Outside ⊤ W N L) (w : W) (n n' : N) (l : L) → Stops (Acts In) p end o (net_side w n (Some l)) → TakesBack net links l n n' → ViewRan In p end o (net_side w n' None)
+  over_with_link p end o w n n' l stops takes = record { mid = net_side w n (Some l); stops = stops; back = (refl, takes, refl) }
 
-  pub over_without_link : (p : Phase) (end : ViewEnd) (o : Outside ⊤ W N L) (w : W) (n : N) → Stops (Acts In) p end o (booth w n None) → ViewRan In p end o (booth w n None)
-  over_without_link p end o w n stops = record { mid = booth w n None; stops = stops; back = refl }
+  pub over_without_link : (p : Phase) (end : ViewEnd) (o : Outside ⊤ W N L) (w : W) (n : N) → Stops (Acts In) p end o (net_side w n None) → ViewRan In p end o (net_side w n None)
+  over_without_link p end o w n stops = record { mid = net_side w n None; stops = stops; back = refl }
 
   -- what came of a call that failed
   pub made_fails : (result : Result L CallFault) (why one : CallFault) (address : List ℕ) (n n' : N) → result ≡ Err why → why ≡ one → MakesLink net links (came_of result) address n n' (made_of result)
@@ -102,25 +102,25 @@ module _ {W N L : Type 0} (out : OutputTells W) (net : NetTells N L) (links : Li
   made_well result l address n n' is makes = subst (λ (r : Result L CallFault). MakesLink net links (came_of r) address n n' (made_of r)) is makes
 
   -- a turn from link to link: one is made, and then
-  module _ (start : Phase) (v : Viewer) (how : How) (o : Outside ⊤ W N L) (w w' : W) (n n' n'' : N) (l l' : L) (so_far : Goes (Acts In) start (Connecting v how) o (booth w n None)) (makes : MakesLink net links Well v.address n n' (Some l)) where
-    connected : Goes (Acts In) start (enter_session v how) o (booth w n' (Some l))
-    connected = goes_on (Acts In) (all_acts_behind In) start (Connecting v how) (enter_session v how) o (booth w n None) (booth w n' (Some l)) so_far (connects_goes v how v.address w n n' l refl makes)
+  module _ (start : Phase) (v : Viewer) (how : How) (o : Outside ⊤ W N L) (w w' : W) (n n' n'' : N) (l l' : L) (so_far : Goes (Acts In) start (Connecting v how) o (net_side w n None)) (makes : MakesLink net links Well v.address n n' (Some l)) where
+    connected : Goes (Acts In) start (enter_session v how) o (net_side w n' (Some l))
+    connected = goes_on (Acts In) (all_acts_behind In) start (Connecting v how) (enter_session v how) o (net_side w n None) (net_side w n' (Some l)) so_far (connects_goes v how v.address w n n' l refl makes)
 
     -- the view goes to another one
-    pub turn_goes : (u : Viewer) (again : How) → Goes (Acts (window_tells out links)) (enter_session v how) (Returning u again) (window w l) (window w' l') → TakesBack net links l' n' n'' → Goes (Acts In) start (Connecting u again) o (booth w' n'' None)
+    pub turn_goes : (u : Viewer) (again : How) → Goes (Acts (link_side_tells out links)) (enter_session v how) (Returning u again) (link_side w l) (link_side w' l') → TakesBack net links l' n' n'' → Goes (Acts In) start (Connecting u again) o (net_side w' n'' None)
     turn_goes u again goes takes =
-        goes_on (Acts In) (all_acts_behind In) start (Returning u again) (Connecting u again) o (booth w' n' (Some l')) (booth w' n'' None)
-        (goes_on (Acts In) (all_acts_behind In) start (enter_session v how) (Returning u again) o (booth w n' (Some l)) (booth w' n' (Some l')) connected (goes_in_booth (enter_session v how) (Returning u again) n' w w' l l' goes))
+        goes_on (Acts In) (all_acts_behind In) start (Returning u again) (Connecting u again) o (net_side w' n' (Some l')) (net_side w' n'' None)
+        (goes_on (Acts In) (all_acts_behind In) start (enter_session v how) (Returning u again) o (net_side w n' (Some l)) (net_side w' n' (Some l')) connected (goes_in_net_side (enter_session v how) (Returning u again) n' w w' l l' goes))
         (returns_goes u again w' n' n'' l' takes)
 
     -- the run stops
-    pub turn_stops : (end : ViewEnd) → Stops (Acts (window_tells out links)) (enter_session v how) end (window w l) (window w' l') → TakesBack net links l' n' n'' → ViewRan In start end o (booth w' n'' None)
+    pub turn_stops : (end : ViewEnd) → Stops (Acts (link_side_tells out links)) (enter_session v how) end (link_side w l) (link_side w' l') → TakesBack net links l' n' n'' → ViewRan In start end o (net_side w' n'' None)
     turn_stops end stops takes =
         over_with_link start end o w' n' n'' l'
-        (goes_and_stops (Acts In) (all_acts_behind In) start (enter_session v how) end o (booth w n' (Some l)) (booth w' n' (Some l')) connected (stops_in_booth (enter_session v how) end n' w w' l l' stops)) takes
+        (goes_and_stops (Acts In) (all_acts_behind In) start (enter_session v how) end o (net_side w n' (Some l)) (net_side w' n' (Some l')) connected (stops_in_net_side (enter_session v how) end n' w w' l l' stops)) takes
 
-    pub turn_done : Goes (Acts (window_tells out links)) (enter_session v how) (Over ending.Done) (window w l) (window w' l') → TakesBack net links l' n' n'' → ViewRan In start ending.Done o (booth w' n'' None)
-    turn_done goes takes = turn_stops ending.Done (reaches_end (Acts (window_tells out links)) (enter_session v how) (Over ending.Done) ending.Done (window w l) (window w' l') goes refl) takes
+    pub turn_done : Goes (Acts (link_side_tells out links)) (enter_session v how) (Over ending.Done) (link_side w l) (link_side w' l') → TakesBack net links l' n' n'' → ViewRan In start ending.Done o (net_side w' n'' None)
+    turn_done goes takes = turn_stops ending.Done (reaches_end (Acts (link_side_tells out links)) (enter_session v how) (Over ending.Done) ending.Done (link_side w l) (link_side w' l') goes refl) takes
 
 -- ---- the lines that are left
 

@@ -74,7 +74,8 @@ rejoined_text (Some found) = rejoined_line found.joined found.from
 abbrev pub synced_phase : Viewer → How → Synced → Phase
 synced_phase v Fresh found = Printing v []
 synced_phase v Whole found = Printing v []
-synced_phase v Resume found = send_all (after_giving v) (unsent v.replica) (TellsText (rejoined_line found.joined found.from))
+synced_phase v Resume found =
+    send_all (after_giving v) (unsent v.replica) (TellsText (rejoined_line found.joined found.from))
 
 -- and behind a frame that was heard for a Sync
 abbrev pub joined_phase : Viewer → How → Option Synced → Phase

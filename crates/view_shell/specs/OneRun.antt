@@ -19,8 +19,10 @@ abbrev pub AreWalkedAlike : List Step → List Step → Phase → Phase → Type
 AreWalkedAlike [] [] last other = last ≡ other
 AreWalkedAlike [] (step ∷ steps) last other = ¬ IsOver last
 AreWalkedAlike (step ∷ steps) [] last other = ¬ IsOver other
-AreWalkedAlike (step ∷ steps) (also ∷ others) last other = AreSteppedAlike step also (AreWalkedAlike steps others last other)
+AreWalkedAlike (step ∷ steps) (also ∷ others) last other =
+    AreSteppedAlike step also (AreWalkedAlike steps others last other)
 
 -- from each phase one text is printed, and the same frames are sent, for what is heard
 abbrev pub IsOneRun : Type 0
-IsOneRun = (from last other : Phase) (steps others : List Step) → Walks from steps last → Walks from others other → AreWalkedAlike steps others last other
+IsOneRun = (from last other : Phase) (steps others : List Step) → Walks from steps last → Walks from others other
+    → AreWalkedAlike steps others last other

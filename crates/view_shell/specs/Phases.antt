@@ -37,7 +37,8 @@ use Rattle.view_shell.specs.declared.ending.ViewEnd.TheVariants as ending
 use Rattle.view_shell.specs.ViewText.{events_text, reached_time_line, settled_line, snapped_line, snap_refused_line, rejoined_line, mark_line, voted_line, vote_missed_line, view_line}
 
 -- what becomes of a replica that takes a tick of its own time
-abbrev pub rested : Worlds WorldRecord PlainOutgoing → PlainReplica WorldRecord PlainOutgoing → PlainReplica WorldRecord PlainOutgoing
+abbrev pub rested : Worlds WorldRecord PlainOutgoing → PlainReplica WorldRecord PlainOutgoing
+    → PlainReplica WorldRecord PlainOutgoing
 rested m r = (taken m r (server.Tick (m.time r.world))).replica
 
 -- A view while it runs. worlds: those of its session. tree: its program. address: where the session's reflector is. replica and topics:
@@ -131,7 +132,8 @@ settle_on v (payload ∷ rest) = Receiving v ToSettle
 
 -- the link is heard, unless what it is heard for is so already
 abbrev pub receive : Viewer → Aim → Phase
-receive v (ToReach time) = if nat_le time v.replica.world.time then finish v (reached_time_line v.replica.world.time) else Receiving v (ToReach time)
+receive v (ToReach time) = if nat_le time v.replica.world.time then finish v (reached_time_line v.replica.world.time)
+    else Receiving v (ToReach time)
 receive v ToSettle = settle_on v v.replica.outbox
 receive v ToCatchUp = if has_caught_up v.replica then finish v [] else Receiving v ToCatchUp
 receive v aim = Receiving v aim
@@ -190,9 +192,11 @@ vote_on v at = vote_by (nat_le at v.replica.seen) v at
 abbrev pub run : Viewer → List PlainLine → Phase
 run v [] = leave_session v
 run v (Publish scope event value ∷ rest) =
-    let w = after_publish (with_lines v rest) (payload_spelling (record { scope = scope; event = event; value = value })) in
+    let w = after_publish (with_lines v rest)
+    (payload_spelling (record { scope = scope; event = event; value = value })) in
     send_all (after_giving w) (unsent w.replica) (Receives ToCatchUp)
-run v (Watch scope event handling ∷ rest) = finish (record v { lines = rest; topics = subscribes v.topics scope event handling }) []
+run v (Watch scope event handling ∷ rest) =
+    finish (record v { lines = rest; topics = subscribes v.topics scope event handling }) []
 run v (Wait time ∷ rest) = receive (with_lines v rest) (ToReach time)
 run v (WaitFor span ∷ rest) = receive (with_lines v rest) (ToReach (time_after v.replica.world.time span))
 run v (Settle ∷ rest) = send_all (after_giving (with_lines v rest)) (unsent v.replica) (Receives ToSettle)
@@ -303,7 +307,8 @@ IsReadAsWorld v frame = Unit {0}
 abbrev pub Moves : Phase → Step → Phase → Type 0
 Moves (Connecting v how) (Connects address) next = (address ≡ v.address) × (next ≡ enter_session v how)
 Moves (Sending v frame frames task) (Sends bytes) next =
-    (bytes ≡ client_spelling frame) × IsClientFrame frame × IsReadAsWorld v frame × (next ≡ send_all (record v { receives = 0 }) frames task)
+    (bytes ≡ client_spelling frame) × IsClientFrame frame × IsReadAsWorld v frame
+    × (next ≡ send_all (record v { receives = 0 }) frames task)
 Moves (Receiving v aim) (Hears what) next = Hearing v aim what next
 Moves (Printing v text) (Prints piece) next = (piece ≡ text) × (next ≡ run v v.lines)
 Moves (Leaving v text) (Prints piece) next = (piece ≡ text) × (next ≡ Sending v client.Leave [] Leaves)

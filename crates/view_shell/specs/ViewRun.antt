@@ -60,7 +60,8 @@ GoesOrStops does from to result old new =
     MatchResult result (λ answer. Goes does from (to answer) old new) (λ end. Stops does from end old new)
 
 -- a run from a phase to its end: its steps, and then the link that is in use, if any, goes back
-pub record ViewRan {F W N L : Type 0} (tells : OutsideTells F W N L) (from : Phase) (end : ViewEnd) (old new : Outside F W N L) : Type 0 where
+pub record ViewRan {F W N L : Type 0} (tells : OutsideTells F W N L) (from : Phase) (end : ViewEnd)
+    (old new : Outside F W N L) : Type 0 where
   pub mid : Outside F W N L
   pub stops : Stops (Acts tells) from end old mid
   pub back : LinkGoesBack tells mid new

@@ -59,7 +59,8 @@ mark_line word = (codes "mark " ++ encode_utf8_all word) ++ 10 ∷ []
 -- a view, its time, how many entries it has seen, and a digest
 abbrev pub digested_view_line : PlainReplica WorldRecord PlainOutgoing → List ℕ → List ℕ
 digested_view_line r digest =
-    spell_numbers (codes "view") (r.view ∷ []) ++ (spell_numbers (codes " time") (r.world.time ∷ []) ++ (spell_numbers (codes " seq") (r.seen ∷ [])
+    spell_numbers (codes "view") (r.view ∷ [])
+    ++ (spell_numbers (codes " time") (r.world.time ∷ []) ++ (spell_numbers (codes " seq") (r.seen ∷ [])
     ++ (codes " digest " ++ (encode_lower digest ++ 10 ∷ []))))
 
 -- the last line, with the digest of its snapshot

@@ -1,11 +1,13 @@
 -- What contracts see of a view while it runs.
-use Rattle.std.specs.Prelude.{◌≡◌, ◌≤◌, ◌<◌, ℕ, ◌+◌, drop, length, List, []}
+use Rattle.std.specs.Prelude.{◌≡◌, ◌⊎◌, ◌≤◌, ◌<◌, ℕ, ◌+◌, true, drop, length, List, []}
 use Rattle.std.specs.Arc.{arc_value}
 use Rattle.model_solved.specs.Founding.{Founding, checked_tree}
 use Rattle.replica_plain.specs.declared.how.How.TheVariants.{Fresh}
 use Rattle.replica_plain.specs.PlainReplica.{new_replica, published_count}
 use Rattle.replica.specs.RealWorlds.{worlds}
-use Rattle.replica.specs.View.{worlds_of}
+use Rattle.replica_plain.specs.Taking.{MayWant, taken}
+use Rattle.wire_frames.specs.declared.frame.ServerFrame.TheVariants.{Tick}
+use Rattle.replica.specs.View.{ReplicaView, worlds_of}
 use Rattle.view_script.specs.PlainLine.{PlainLine, publish_count, most_publishes}
 use Rattle.view_shell.specs.declared.lines.Departure.{Departure}
 use Rattle.view_shell.specs.declared.lines.Departure.TheVariants as departure
@@ -31,7 +33,16 @@ viewer address w lines =
 abbrev pub first_viewer : Founding → List ℕ → ℕ → List ℕ → List PlainLine → Viewer
 first_viewer founding id view address lines =
     let m = worlds founding id in
-    record { worlds = m; tree = founding.tree; address = address; replica = new_replica m view; topics = []; lines = lines; receives = 0; quiets = 0 }
+    record {
+      worlds = m;
+      tree = founding.tree;
+      address = address;
+      replica = new_replica m view;
+      topics = [];
+      lines = lines;
+      receives = 0;
+      quiets = 0;
+    }
 
 -- it connects, and joins for the first time
 abbrev pub first_phase : Founding → List ℕ → ℕ → List ℕ → List PlainLine → Phase
@@ -64,3 +75,7 @@ pub record HasHeard (w : Watcher) : Type 0 where
 abbrev pub HasRoomBehind : Departure → Watcher → List PlainLine → Type 0
 HasRoomBehind (departure.Again how count) w lines = (count ≤ length lines) × HasRoomFor w (drop count lines)
 HasRoomBehind departure.Done w lines = Unit {0}
+
+-- a tick of its own time may want memory: memory broke the replica before, or the tick has no other fault
+abbrev pub RestMayWant : ReplicaView → Type 0
+RestMayWant r = (r.plain.broken ≡ true) ⊎ MayWant (taken (worlds_of r) r.plain (Tick r.plain.world.time)).fault

@@ -39,6 +39,17 @@ pub enum Stop {
     BadBase,
 }
 
+impl From<ViewEnd> for Stop {
+    ghost use Rattle.std.specs.Prelude.{◌≡◌};
+    ghost use Rattle.view_shell.specs.declared.hearing.Stop.TheVariants as stops;
+
+    ghost from_gives = { λ end stop. stop ≡ stops.End end };
+
+    fn from(end: ViewEnd) -> Self {
+        Stop::End(end)
+    }
+}
+
 /// What a replica's fault comes to.
 fn stop_for(fault: ReplicaFault) -> Stop
     ensures { result ≡ stop_for fault }
@@ -59,8 +70,10 @@ pub fn take(watcher: &mut Watcher, bytes: &Blob) -> Result<ServerFrame, Stop>
     ensures knows { KnowsItself watcher.old → KnowsItself watcher.new }
     ensures frame { IfOk result (λ frame. whole server_at bytes.now ≡ Some frame) }
     ensures taken { (address : List ℕ) (lines : List PlainLine) (aim : Aim) → MatchResult result
-        (λ frame. reads (viewer address watcher.old lines) aim (whole server_at bytes.now) ≡ after_frame (viewer address watcher.new lines) aim frame)
-        (λ stop. StopsAt stop (reads (viewer address watcher.old lines) aim (whole server_at bytes.now)) (viewer address watcher.new lines) aim) }
+        (λ frame. reads (viewer address watcher.old lines) aim (whole server_at bytes.now)
+        ≡ after_frame (viewer address watcher.new lines) aim frame)
+        (λ stop. StopsAt stop (reads (viewer address watcher.old lines) aim (whole server_at bytes.now))
+        (viewer address watcher.new lines) aim) }
 {
     let frame = match read_server(watcher.alloc, bytes.bytes()) {
         Ok(frame) => frame,
@@ -76,23 +89,24 @@ pub fn take(watcher: &mut Watcher, bytes: &Blob) -> Result<ServerFrame, Stop>
 /// Hears the link once: the frame that was taken, or none where the link was quiet.
 fn hear<L: Link>(watcher: &mut Watcher, link: &mut L) -> Result<Option<ServerFrame>, Stop>
     requires ready { IsReady watcher.old }
-    ensures kept { watcher.new ≡ record watcher.old { replica = watcher.new.replica; receives = watcher.new.receives; quiets = watcher.new.quiets } }
+    ensures kept { watcher.new ≡ record watcher.old {
+      replica = watcher.new.replica;
+      receives = watcher.new.receives;
+      quiets = watcher.new.quiets;
+    } }
     ensures heard { OnOk result (HasHeard watcher.new) }
     ensures knows { KnowsItself watcher.new }
     ensures talk { (address : List ℕ) (lines : List PlainLine) (aim : Aim) → MatchResult result
-        (λ frame. Goes (LinkActs (links_tell L.coming L.heard L.sent L.counts))
-        (Receiving (viewer address watcher.old lines) aim) (HeardPhase (viewer address watcher.new lines) aim frame) link.old link.new)
-        (λ stop. StopsHearing (LinkActs (links_tell L.coming L.heard L.sent L.counts)) stop
+        (λ frame. Goes (LinkActs (links_tell L.Link)) (Receiving (viewer address watcher.old lines) aim)
+        (HeardPhase (viewer address watcher.new lines) aim frame) link.old link.new)
+        (λ stop. StopsHearing (LinkActs (links_tell L.Link)) stop
         (Receiving (viewer address watcher.old lines) aim) (viewer address watcher.new lines) aim link.old link.new) }
 {
     match link.recv() {
         Heard::Frame(bytes) => {
             watcher.receives += 1;
             watcher.quiets = 0;
-            match take(watcher, &bytes) {
-                Ok(frame) => Ok(Some(frame)),
-                Err(stop) => Err(stop),
-            }
+            Ok(Some(take(watcher, &bytes)?))
         }
         Heard::Quiet => {
             watcher.receives += 1;
@@ -112,20 +126,22 @@ fn hear<L: Link>(watcher: &mut Watcher, link: &mut L) -> Result<Option<ServerFra
 /// Hears the link once, and stays alive. A base that is none is the reflector's fault here.
 fn hear_on<L: Link>(watcher: &mut Watcher, link: &mut L) -> Result<(), ViewEnd>
     requires ready { IsReady watcher.old }
-    ensures kept { watcher.new ≡ record watcher.old { replica = watcher.new.replica; receives = watcher.new.receives; quiets = watcher.new.quiets } }
+    ensures kept { watcher.new ≡ record watcher.old {
+      replica = watcher.new.replica;
+      receives = watcher.new.receives;
+      quiets = watcher.new.quiets;
+    } }
     ensures ready { OnOk result (IsReady watcher.new) }
-    ensures talk { (address : List ℕ) (lines : List PlainLine) (aim : Aim) → GoesOnFor aim → GoesOrStops (LinkActs (links_tell L.coming L.heard L.sent L.counts))
-        (Receiving (viewer address watcher.old lines) aim) (λ _. receive (viewer address watcher.new lines) aim) result link.old link.new }
+    ensures talk { (address : List ℕ) (lines : List PlainLine) (aim : Aim) → GoesOnFor aim
+        → GoesOrStops (LinkActs (links_tell L.Link)) (Receiving (viewer address watcher.old lines) aim) (λ _.
+        receive (viewer address watcher.new lines) aim) result link.old link.new }
 {
     match hear(watcher, link) {
         Ok(_) => {}
         Err(Stop::End(end)) => return Err(end),
         Err(Stop::BadBase) => return Err(ViewEnd::Peer),
     }
-    match stay_alive(watcher, link) {
-        Ok(()) => Ok(()),
-        Err(end) => Err(end),
-    }
+    stay_alive(watcher, link)
 }
 
 /// Hears the link until the replica's time is this one or later.
@@ -136,19 +152,22 @@ pub fn reach<R: Wait, L: Link>(
     time: u64,
 ) -> Result<(), ViewEnd>
     requires ready { IsReady watcher.old }
-    ensures kept { watcher.new ≡ record watcher.old { replica = watcher.new.replica; receives = watcher.new.receives; quiets = watcher.new.quiets } }
+    ensures kept { watcher.new ≡ record watcher.old {
+      replica = watcher.new.replica;
+      receives = watcher.new.receives;
+      quiets = watcher.new.quiets;
+    } }
     ensures ready { OnOk result (IsReady watcher.new) }
-    ensures talk { (address : List ℕ) (lines : List PlainLine) → GoesOrStops (LinkActs (links_tell L.coming L.heard L.sent L.counts))
-        (receive (viewer address watcher.old lines) (ToReach time)) (λ _. finish (viewer address watcher.new lines) (reached_time_line watcher.new.replica.plain.world.time)) result link.old link.new }
+    ensures talk { (address : List ℕ) (lines : List PlainLine)
+        → GoesOrStops (LinkActs (links_tell L.Link)) (receive (viewer address watcher.old lines) (ToReach time)) (λ _.
+        finish (viewer address watcher.new lines) (reached_time_line watcher.new.replica.plain.world.time)) result
+        link.old link.new }
 {
     for _ in rt.forever() {
         if time <= watcher.replica.time() {
             return Ok(());
         }
-        match hear_on(watcher, link) {
-            Ok(()) => {}
-            Err(end) => return Err(end),
-        }
+        hear_on(watcher, link)?;
     }
     unreachable!()
 }
@@ -156,19 +175,21 @@ pub fn reach<R: Wait, L: Link>(
 /// Hears the link until each event is acknowledged.
 pub fn settle<R: Wait, L: Link>(rt: &R, watcher: &mut Watcher, link: &mut L) -> Result<(), ViewEnd>
     requires ready { IsReady watcher.old }
-    ensures kept { watcher.new ≡ record watcher.old { replica = watcher.new.replica; receives = watcher.new.receives; quiets = watcher.new.quiets } }
+    ensures kept { watcher.new ≡ record watcher.old {
+      replica = watcher.new.replica;
+      receives = watcher.new.receives;
+      quiets = watcher.new.quiets;
+    } }
     ensures ready { OnOk result (IsReady watcher.new) }
-    ensures talk { (address : List ℕ) (lines : List PlainLine) → GoesOrStops (LinkActs (links_tell L.coming L.heard L.sent L.counts))
-        (receive (viewer address watcher.old lines) ToSettle) (λ _. finish (viewer address watcher.new lines) (settled_line watcher.new.published)) result link.old link.new }
+    ensures talk { (address : List ℕ) (lines : List PlainLine)
+        → GoesOrStops (LinkActs (links_tell L.Link)) (receive (viewer address watcher.old lines) ToSettle) (λ _.
+        finish (viewer address watcher.new lines) (settled_line watcher.new.published)) result link.old link.new }
 {
     for _ in rt.forever() {
         if watcher.replica.settled() {
             return Ok(());
         }
-        match hear_on(watcher, link) {
-            Ok(()) => {}
-            Err(end) => return Err(end),
-        }
+        hear_on(watcher, link)?;
     }
     unreachable!()
 }
@@ -188,19 +209,21 @@ pub fn catch_up<R: Wait, L: Link>(
     link: &mut L,
 ) -> Result<(), ViewEnd>
     requires ready { IsReady watcher.old }
-    ensures kept { watcher.new ≡ record watcher.old { replica = watcher.new.replica; receives = watcher.new.receives; quiets = watcher.new.quiets } }
+    ensures kept { watcher.new ≡ record watcher.old {
+      replica = watcher.new.replica;
+      receives = watcher.new.receives;
+      quiets = watcher.new.quiets;
+    } }
     ensures ready { OnOk result (IsReady watcher.new) }
-    ensures talk { (address : List ℕ) (lines : List PlainLine) → GoesOrStops (LinkActs (links_tell L.coming L.heard L.sent L.counts))
-        (receive (viewer address watcher.old lines) ToCatchUp) (λ _. finish (viewer address watcher.new lines) []) result link.old link.new }
+    ensures talk { (address : List ℕ) (lines : List PlainLine)
+        → GoesOrStops (LinkActs (links_tell L.Link)) (receive (viewer address watcher.old lines) ToCatchUp) (λ _.
+        finish (viewer address watcher.new lines) []) result link.old link.new }
 {
     for _ in rt.forever() {
         if has_caught_up(&watcher.replica) {
             return Ok(());
         }
-        match hear_on(watcher, link) {
-            Ok(()) => {}
-            Err(end) => return Err(end),
-        }
+        hear_on(watcher, link)?;
     }
     unreachable!()
 }
@@ -231,20 +254,23 @@ fn answer_in(frame: &Option<ServerFrame>) -> Option<SnapAnswer>
 /// Hears the link once, for the answer to a snapshot, and stays alive.
 fn hear_answer<L: Link>(watcher: &mut Watcher, link: &mut L) -> Result<Option<SnapAnswer>, ViewEnd>
     requires ready { IsReady watcher.old }
-    ensures kept { watcher.new ≡ record watcher.old { replica = watcher.new.replica; receives = watcher.new.receives; quiets = watcher.new.quiets } }
+    ensures kept { watcher.new ≡ record watcher.old {
+      replica = watcher.new.replica;
+      receives = watcher.new.receives;
+      quiets = watcher.new.quiets;
+    } }
     ensures ready { OnOk result (IsReady watcher.new) }
-    ensures talk { (address : List ℕ) (lines : List PlainLine) → GoesOrStops (LinkActs (links_tell L.coming L.heard L.sent L.counts))
-        (Receiving (viewer address watcher.old lines) ToSnap) (λ found. answered_phase (viewer address watcher.new lines) found) result link.old link.new }
+    ensures talk { (address : List ℕ) (lines : List PlainLine)
+        → GoesOrStops (LinkActs (links_tell L.Link)) (Receiving (viewer address watcher.old lines) ToSnap) (λ found.
+        answered_phase (viewer address watcher.new lines) found) result link.old link.new }
 {
     let found = match hear(watcher, link) {
         Ok(frame) => answer_in(&frame),
         Err(Stop::End(end)) => return Err(end),
         Err(Stop::BadBase) => return Err(ViewEnd::Peer),
     };
-    match stay_alive(watcher, link) {
-        Ok(()) => Ok(found),
-        Err(end) => Err(end),
-    }
+    stay_alive(watcher, link)?;
+    Ok(found)
 }
 
 /// Hears the link until the snapshot is answered.
@@ -254,16 +280,19 @@ pub fn await_answer<R: Wait, L: Link>(
     link: &mut L,
 ) -> Result<SnapAnswer, ViewEnd>
     requires ready { IsReady watcher.old }
-    ensures kept { watcher.new ≡ record watcher.old { replica = watcher.new.replica; receives = watcher.new.receives; quiets = watcher.new.quiets } }
+    ensures kept { watcher.new ≡ record watcher.old {
+      replica = watcher.new.replica;
+      receives = watcher.new.receives;
+      quiets = watcher.new.quiets;
+    } }
     ensures ready { OnOk result (IsReady watcher.new) }
-    ensures talk { (address : List ℕ) (lines : List PlainLine) → GoesOrStops (LinkActs (links_tell L.coming L.heard L.sent L.counts))
-        (Receiving (viewer address watcher.old lines) ToSnap) (λ answer. finish (viewer address watcher.new lines) (answer_line answer)) result link.old link.new }
+    ensures talk { (address : List ℕ) (lines : List PlainLine)
+        → GoesOrStops (LinkActs (links_tell L.Link)) (Receiving (viewer address watcher.old lines) ToSnap) (λ answer.
+        finish (viewer address watcher.new lines) (answer_line answer)) result link.old link.new }
 {
     for _ in rt.forever() {
-        match hear_answer(watcher, link) {
-            Ok(Some(answer)) => return Ok(answer),
-            Ok(None) => {}
-            Err(end) => return Err(end),
+        if let Some(answer) = hear_answer(watcher, link)? {
+            return Ok(answer);
         }
     }
     unreachable!()
@@ -283,11 +312,15 @@ pub fn brings_entry(replica: &Replica, frame: &Option<ServerFrame>, at: u32) -> 
 fn vote_if(watcher: &mut Watcher, at: u32, comes: bool) -> Result<(), ViewEnd>
     requires heard { HasHeard watcher.old }
     requires room { watcher.old.published < most_publishes }
-    ensures kept { watcher.new ≡ record watcher.old { replica = watcher.new.replica; published = watcher.new.published } }
+    ensures kept { watcher.new ≡ record watcher.old {
+      replica = watcher.new.replica;
+      published = watcher.new.published;
+    } }
     ensures count { OnOk result (watcher.new.published ≡ watcher.old.published + vote_count comes) }
     ensures heard { HasHeard watcher.new }
     ensures voted { (address : List ℕ) (lines : List PlainLine) → OnOk result
-        (after_entry comes (viewer address watcher.old lines) at ≡ voted_phase (viewer address watcher.new lines) at comes) }
+        (after_entry comes (viewer address watcher.old lines) at
+        ≡ voted_phase (viewer address watcher.new lines) at comes) }
     ensures want { IfErr result (λ end. end ≡ ViewEnd.WantOfMemory) }
 {
     if comes {
@@ -300,41 +333,46 @@ fn vote_if(watcher: &mut Watcher, at: u32, comes: bool) -> Result<(), ViewEnd>
 fn hear_entry<L: Link>(watcher: &mut Watcher, link: &mut L, at: u32) -> Result<bool, ViewEnd>
     requires ready { IsReady watcher.old }
     requires room { watcher.old.published < most_publishes }
-    ensures kept { watcher.new ≡ record watcher.old { replica = watcher.new.replica; receives = watcher.new.receives; quiets = watcher.new.quiets; published = watcher.new.published } }
+    ensures kept { watcher.new ≡ record watcher.old {
+      replica = watcher.new.replica;
+      receives = watcher.new.receives;
+      quiets = watcher.new.quiets;
+      published = watcher.new.published;
+    } }
     ensures heard { OnOk result (HasHeard watcher.new) }
     ensures count { IfOk result (λ comes. watcher.new.published ≡ watcher.old.published + vote_count comes) }
-    ensures talk { (address : List ℕ) (lines : List PlainLine) → GoesOrStops (LinkActs (links_tell L.coming L.heard L.sent L.counts))
-        (Receiving (viewer address watcher.old lines) (ToSee at)) (λ comes. voted_phase (viewer address watcher.new lines) at comes) result link.old link.new }
+    ensures talk { (address : List ℕ) (lines : List PlainLine)
+        → GoesOrStops (LinkActs (links_tell L.Link)) (Receiving (viewer address watcher.old lines) (ToSee at)) (λ comes.
+        voted_phase (viewer address watcher.new lines) at comes) result link.old link.new }
 {
     let comes = match hear(watcher, link) {
         Ok(frame) => brings_entry(&watcher.replica, &frame, at),
         Err(Stop::End(end)) => return Err(end),
         Err(Stop::BadBase) => return Err(ViewEnd::Peer),
     };
-    match vote_if(watcher, at, comes) {
-        Ok(()) => Ok(comes),
-        Err(end) => Err(end),
-    }
+    vote_if(watcher, at, comes)?;
+    Ok(comes)
 }
 
 /// The same, and stays alive.
 fn take_entry<L: Link>(watcher: &mut Watcher, link: &mut L, at: u32) -> Result<bool, ViewEnd>
     requires ready { IsReady watcher.old }
     requires room { watcher.old.published < most_publishes }
-    ensures kept { watcher.new ≡ record watcher.old { replica = watcher.new.replica; receives = watcher.new.receives; quiets = watcher.new.quiets; published = watcher.new.published } }
+    ensures kept { watcher.new ≡ record watcher.old {
+      replica = watcher.new.replica;
+      receives = watcher.new.receives;
+      quiets = watcher.new.quiets;
+      published = watcher.new.published;
+    } }
     ensures ready { OnOk result (IsReady watcher.new) }
     ensures count { IfOk result (λ comes. watcher.new.published ≡ watcher.old.published + vote_count comes) }
-    ensures talk { (address : List ℕ) (lines : List PlainLine) → GoesOrStops (LinkActs (links_tell L.coming L.heard L.sent L.counts))
-        (Receiving (viewer address watcher.old lines) (ToSee at)) (λ comes. entry_phase (viewer address watcher.new lines) at comes) result link.old link.new }
+    ensures talk { (address : List ℕ) (lines : List PlainLine)
+        → GoesOrStops (LinkActs (links_tell L.Link)) (Receiving (viewer address watcher.old lines) (ToSee at)) (λ comes.
+        entry_phase (viewer address watcher.new lines) at comes) result link.old link.new }
 {
-    let comes = match hear_entry(watcher, link, at) {
-        Ok(comes) => comes,
-        Err(end) => return Err(end),
-    };
-    match stay_alive(watcher, link) {
-        Ok(()) => Ok(comes),
-        Err(end) => Err(end),
-    }
+    let comes = hear_entry(watcher, link, at)?;
+    stay_alive(watcher, link)?;
+    Ok(comes)
 }
 
 /// Hears the link until the view has an entry, and votes on it directly after it. The vote is not sent yet.
@@ -348,17 +386,13 @@ pub fn await_entry<R: Wait, L: Link>(
     requires room { watcher.old.published < most_publishes }
     ensures ready { OnOk result (IsReady watcher.new) }
     ensures count { OnOk result (watcher.new.published ≡ watcher.old.published + 1) }
-    ensures talk { (address : List ℕ) (lines : List PlainLine) → GoesOrStops (LinkActs (links_tell L.coming L.heard L.sent L.counts))
-        (Receiving (viewer address watcher.old lines) (ToSee at)) (λ _. vote_told (viewer address watcher.new lines) at) result link.old link.new }
+    ensures talk { (address : List ℕ) (lines : List PlainLine)
+        → GoesOrStops (LinkActs (links_tell L.Link)) (Receiving (viewer address watcher.old lines) (ToSee at)) (λ _.
+        vote_told (viewer address watcher.new lines) at) result link.old link.new }
 {
     for _ in rt.forever() {
-        match take_entry(watcher, link, at) {
-            Ok(comes) => {
-                if comes {
-                    return Ok(());
-                }
-            }
-            Err(end) => return Err(end),
+        if take_entry(watcher, link, at)? {
+            return Ok(());
         }
     }
     unreachable!()
@@ -387,23 +421,23 @@ fn sync_in(frame: &Option<ServerFrame>) -> Option<Synced>
 /// Hears the link once, for a Sync, and stays alive.
 fn hear_sync<L: Link>(watcher: &mut Watcher, link: &mut L) -> Result<Option<Synced>, Stop>
     requires ready { IsReady watcher.old }
-    ensures kept { watcher.new ≡ record watcher.old { replica = watcher.new.replica; receives = watcher.new.receives; quiets = watcher.new.quiets } }
+    ensures kept { watcher.new ≡ record watcher.old {
+      replica = watcher.new.replica;
+      receives = watcher.new.receives;
+      quiets = watcher.new.quiets;
+    } }
     ensures ready { OnOk result (IsReady watcher.new) }
     ensures knows { KnowsItself watcher.new }
     ensures talk { (address : List ℕ) (lines : List PlainLine) (how : How) → MatchResult result
-        (λ found. Goes (LinkActs (links_tell L.coming L.heard L.sent L.counts))
-        (Receiving (viewer address watcher.old lines) (ToJoin how)) (joined_phase (viewer address watcher.new lines) how found) link.old link.new)
-        (λ stop. StopsHearing (LinkActs (links_tell L.coming L.heard L.sent L.counts)) stop
-        (Receiving (viewer address watcher.old lines) (ToJoin how)) (viewer address watcher.new lines) (ToJoin how) link.old link.new) }
+        (λ found. Goes (LinkActs (links_tell L.Link)) (Receiving (viewer address watcher.old lines) (ToJoin how))
+        (joined_phase (viewer address watcher.new lines) how found) link.old link.new)
+        (λ stop. StopsHearing (LinkActs (links_tell L.Link)) stop
+        (Receiving (viewer address watcher.old lines) (ToJoin how)) (viewer address watcher.new lines)
+        (ToJoin how) link.old link.new) }
 {
-    let found = match hear(watcher, link) {
-        Ok(frame) => sync_in(&frame),
-        Err(stop) => return Err(stop),
-    };
-    match stay_alive(watcher, link) {
-        Ok(()) => Ok(found),
-        Err(end) => Err(Stop::End(end)),
-    }
+    let found = sync_in(&hear(watcher, link)?);
+    stay_alive(watcher, link)?;
+    Ok(found)
 }
 
 /// Hears the link until a Sync is taken.
@@ -413,20 +447,23 @@ pub fn await_sync<R: Wait, L: Link>(
     link: &mut L,
 ) -> Result<Synced, Stop>
     requires ready { IsReady watcher.old }
-    ensures kept { watcher.new ≡ record watcher.old { replica = watcher.new.replica; receives = watcher.new.receives; quiets = watcher.new.quiets } }
+    ensures kept { watcher.new ≡ record watcher.old {
+      replica = watcher.new.replica;
+      receives = watcher.new.receives;
+      quiets = watcher.new.quiets;
+    } }
     ensures ready { OnOk result (IsReady watcher.new) }
     ensures knows { KnowsItself watcher.new }
     ensures talk { (address : List ℕ) (lines : List PlainLine) (how : How) → MatchResult result
-        (λ found. Goes (LinkActs (links_tell L.coming L.heard L.sent L.counts))
-        (Receiving (viewer address watcher.old lines) (ToJoin how)) (synced_phase (viewer address watcher.new lines) how found) link.old link.new)
-        (λ stop. StopsHearing (LinkActs (links_tell L.coming L.heard L.sent L.counts)) stop
-        (Receiving (viewer address watcher.old lines) (ToJoin how)) (viewer address watcher.new lines) (ToJoin how) link.old link.new) }
+        (λ found. Goes (LinkActs (links_tell L.Link)) (Receiving (viewer address watcher.old lines) (ToJoin how))
+        (synced_phase (viewer address watcher.new lines) how found) link.old link.new)
+        (λ stop. StopsHearing (LinkActs (links_tell L.Link)) stop
+        (Receiving (viewer address watcher.old lines) (ToJoin how)) (viewer address watcher.new lines)
+        (ToJoin how) link.old link.new) }
 {
     for _ in rt.forever() {
-        match hear_sync(watcher, link) {
-            Ok(Some(found)) => return Ok(found),
-            Ok(None) => {}
-            Err(stop) => return Err(stop),
+        if let Some(found) = hear_sync(watcher, link)? {
+            return Ok(found);
         }
     }
     unreachable!()

@@ -22,7 +22,7 @@ pub use hearing::{Stop, has_caught_up, take};
 pub use laws::{one_run, votes_agree};
 pub use lines::{last_line, rest, shown_text, snap_frame, time_after};
 pub use publishing::{publish, vote};
-pub use sending::{MOST_RECEIVES, spelling};
+pub use sending::MOST_RECEIVES;
 pub use showing::world_text;
 pub use text::{mark_line, numbers_line};
 pub use view::{Visit, run_view};

@@ -1,6 +1,7 @@
 //! The lines of a script, done one after the other on one link.
-ghost use Rattle.std.specs.Prelude.{◌≡◌, ◌≤◌, ◌<◌, ◌+◌, ℕ, List, [], ◌∷◌, IfOk, IfErr, OnOk, string_bytes};
-ghost use Rattle.run_steps.specs.Outside.{Acts, PrintsText, Well, links_tell, output_tells, window, window_tells};
+ghost use Rattle.std.specs.Prelude.{◌≡◌, ◌≤◌, ◌<◌, ◌+◌, ℕ, List, [], ◌∷◌, IfOk, IfErr, OnErr, OnOk, string_bytes};
+ghost use Rattle.run_steps.specs.Outside.{Acts, PrintsText, Well, links_tell, output_tells, link_side, link_side_tells};
+ghost use Rattle.wire_frames.specs.Frames.{FitsClient};
 ghost use Rattle.replica_plain.specs.Calls.{snap_frame, takes_out, unsent};
 ghost use Rattle.replica.specs.View.{with_plain, worlds_of};
 ghost use Rattle.view_bridge.specs.Topics.{subscribes};
@@ -8,7 +9,7 @@ ghost use Rattle.view_script.specs.PlainLine.{LineFits, PlainLine, most_publishe
 ghost use Rattle.std.specs.List.{AllByRecursion};
 ghost use Rattle.view_shell.specs.Phases.{IsReadAsWorld, Over, Viewer, Receives, Receiving, Sending, TellsText, ToReach, ToSettle, ToCatchUp, ToSnap, ToSee, finish, after_giving, after_rest, leave_session, receive, rested, run, send_all, shown_text, time_after, vote_on, world_text};
 ghost use Rattle.view_shell.specs.ViewText.{digested_view_line, mark_line as line_of_mark, numbers_line, view_line, vote_missed_line};
-ghost use Rattle.view_shell.specs.Viewers.{HasRoomBehind, HasRoomFor, IsReady, KnowsItself, viewer};
+ghost use Rattle.view_shell.specs.Viewers.{HasRoomBehind, HasRoomFor, IsReady, KnowsItself, RestMayWant, viewer};
 ghost use Rattle.view_shell.specs.Flows.{departure_phase, flow_of, flow_phase};
 ghost use Rattle.view_shell.specs.ViewRun.{GoesOrStops, LinkActs, StopsPrinting};
 ghost use Rattle.view_shell.specs.Hearing.{answer_line, rejoined_text, vote_told};
@@ -20,8 +21,8 @@ use crate::sending::{send, send_unsent};
 use crate::showing::world_text;
 use crate::text::{events_text, mark_line, numbers_line};
 use crate::watcher::Watcher;
-use replica::{Replica, worlds_stand};
-use replica_plain::How;
+use replica::Replica;
+use replica_plain::{How, ReplicaFault};
 use run_steps::{CallFault, print_text};
 use snapshot_codec::digest;
 use std::sync::Wait;
@@ -56,8 +57,8 @@ pub enum Departure {
 
 /// Prints a text. Of an empty one the output is not asked.
 fn print<W: Sink>(out: &mut W, text: &[u8]) -> Result<(), ViewEnd>
-    ensures ok { OnOk result (PrintsText (output_tells W.written W.faults W.wants) Well text.now out.old out.new) }
-    ensures err { IfErr result (λ end. StopsPrinting (output_tells W.written W.faults W.wants) end text.now out.old out.new) }
+    ensures ok { OnOk result (PrintsText (output_tells W.Sink) Well text.now out.old out.new) }
+    ensures err { IfErr result (λ end. StopsPrinting (output_tells W.Sink) end text.now out.old out.new) }
 {
     if text.is_empty() {
         return Ok(());
@@ -71,8 +72,12 @@ fn print<W: Sink>(out: &mut W, text: &[u8]) -> Result<(), ViewEnd>
 
 /// The lines of the events that models published, as they are handled, and then a text.
 pub fn shown_text(watcher: &mut Watcher, text: &str) -> Result<String, WantOfMemory>
-    ensures kept { watcher.new ≡ record watcher.old { replica = with_plain watcher.old.replica (takes_out watcher.old.replica.plain) } }
-    ensures shown { (address : List ℕ) (lines : List PlainLine) → IfOk result (λ shown. string_bytes shown ≡ shown_text (viewer address watcher.old lines) text.now) }
+    ensures kept { watcher.new ≡ record watcher.old {
+      replica = with_plain watcher.old.replica
+          (takes_out watcher.old.replica.plain);
+    } }
+    ensures shown { (address : List ℕ) (lines : List PlainLine)
+        → IfOk result (λ shown. string_bytes shown ≡ shown_text (viewer address watcher.old lines) text.now) }
 {
     let events = watcher.replica.take_out();
     let handled = watcher.topics.update(events)?;
@@ -83,14 +88,18 @@ pub fn shown_text(watcher: &mut Watcher, text: &str) -> Result<String, WantOfMem
 
 /// A line of the script is done: the events are handled and told, and then the line's own text.
 fn finish<W: Sink>(watcher: &mut Watcher, out: &mut W, text: &str) -> Result<(), ViewEnd>
-    ensures kept { watcher.new ≡ record watcher.old { replica = with_plain watcher.old.replica (takes_out watcher.old.replica.plain) } }
-    ensures ok { (address : List ℕ) (lines : List PlainLine) → OnOk result (PrintsText (output_tells W.written W.faults W.wants) Well (shown_text (viewer address watcher.old lines) text.now) out.old out.new) }
-    ensures err { (address : List ℕ) (lines : List PlainLine) → IfErr result (λ end. StopsPrinting (output_tells W.written W.faults W.wants) end (shown_text (viewer address watcher.old lines) text.now) out.old out.new) }
+    ensures kept { watcher.new ≡ record watcher.old {
+      replica = with_plain watcher.old.replica
+          (takes_out watcher.old.replica.plain);
+    } }
+    ensures ok { (address : List ℕ) (lines : List PlainLine)
+        → OnOk result (PrintsText (output_tells W.Sink) Well
+        (shown_text (viewer address watcher.old lines) text.now) out.old out.new) }
+    ensures err { (address : List ℕ) (lines : List PlainLine)
+        → IfErr result (λ end. StopsPrinting (output_tells W.Sink) end
+        (shown_text (viewer address watcher.old lines) text.now) out.old out.new) }
 {
-    let shown = match shown_text(watcher, text) {
-        Ok(shown) => shown,
-        Err(WantOfMemory) => return Err(ViewEnd::WantOfMemory),
-    };
+    let shown = shown_text(watcher, text)?;
     print(out, shown.as_bytes())
 }
 
@@ -102,14 +111,16 @@ fn finish_with<W: Sink>(
     numbers: &[u64],
 ) -> Result<(), ViewEnd>
     ensures kept { watcher.new ≡ record watcher.old { replica = watcher.new.replica } }
-    ensures ok { OnOk result (watcher.new.replica ≡ with_plain watcher.old.replica (takes_out watcher.old.replica.plain)) }
-    ensures printed { (address : List ℕ) (lines : List PlainLine) → OnOk result (PrintsText (output_tells W.written W.faults W.wants) Well (shown_text (viewer address watcher.old lines) (numbers_line word.now numbers.now)) out.old out.new) }
-    ensures err { (address : List ℕ) (lines : List PlainLine) → IfErr result (λ end. StopsPrinting (output_tells W.written W.faults W.wants) end (shown_text (viewer address watcher.old lines) (numbers_line word.now numbers.now)) out.old out.new) }
+    ensures ok { OnOk result (watcher.new.replica
+        ≡ with_plain watcher.old.replica (takes_out watcher.old.replica.plain)) }
+    ensures printed { (address : List ℕ) (lines : List PlainLine)
+        → OnOk result (PrintsText (output_tells W.Sink) Well
+        (shown_text (viewer address watcher.old lines) (numbers_line word.now numbers.now)) out.old out.new) }
+    ensures err { (address : List ℕ) (lines : List PlainLine)
+        → IfErr result (λ end. StopsPrinting (output_tells W.Sink) end
+        (shown_text (viewer address watcher.old lines) (numbers_line word.now numbers.now)) out.old out.new) }
 {
-    let text = match numbers_line(watcher.alloc, word, numbers) {
-        Ok(text) => text,
-        Err(WantOfMemory) => return Err(ViewEnd::WantOfMemory),
-    };
+    let text = numbers_line(watcher.alloc, word, numbers)?;
     finish(watcher, out, text.as_str())
 }
 
@@ -118,14 +129,16 @@ fn mark<W: Sink>(watcher: &mut Watcher, out: &mut W, word: &Text) -> Result<(), 
     requires ready { IsReady watcher.old }
     ensures kept { watcher.new ≡ record watcher.old { replica = watcher.new.replica } }
     ensures ready { OnOk result (IsReady watcher.new) }
-    ensures ok { OnOk result (watcher.new.replica ≡ with_plain watcher.old.replica (takes_out watcher.old.replica.plain)) }
-    ensures printed { (address : List ℕ) (lines : List PlainLine) → OnOk result (PrintsText (output_tells W.written W.faults W.wants) Well (shown_text (viewer address watcher.old lines) (line_of_mark word.now)) out.old out.new) }
-    ensures err { (address : List ℕ) (lines : List PlainLine) → IfErr result (λ end. StopsPrinting (output_tells W.written W.faults W.wants) end (shown_text (viewer address watcher.old lines) (line_of_mark word.now)) out.old out.new) }
+    ensures ok { OnOk result (watcher.new.replica
+        ≡ with_plain watcher.old.replica (takes_out watcher.old.replica.plain)) }
+    ensures printed { (address : List ℕ) (lines : List PlainLine)
+        → OnOk result (PrintsText (output_tells W.Sink) Well
+        (shown_text (viewer address watcher.old lines) (line_of_mark word.now)) out.old out.new) }
+    ensures err { (address : List ℕ) (lines : List PlainLine)
+        → IfErr result (λ end. StopsPrinting (output_tells W.Sink) end
+        (shown_text (viewer address watcher.old lines) (line_of_mark word.now)) out.old out.new) }
 {
-    let text = match mark_line(watcher.alloc, word) {
-        Ok(text) => text,
-        Err(WantOfMemory) => return Err(ViewEnd::WantOfMemory),
-    };
+    let text = mark_line(watcher.alloc, word)?;
     finish(watcher, out, text.as_str())
 }
 
@@ -147,20 +160,20 @@ fn wait<R: Wait, L: Link, W: Sink>(
     time: u64,
 ) -> Result<(), ViewEnd>
     requires ready { IsReady watcher.old }
-    ensures kept { watcher.new ≡ record watcher.old { replica = watcher.new.replica; receives = watcher.new.receives; quiets = watcher.new.quiets } }
+    ensures kept { watcher.new ≡ record watcher.old {
+      replica = watcher.new.replica;
+      receives = watcher.new.receives;
+      quiets = watcher.new.quiets;
+    } }
     ensures ready { OnOk result (IsReady watcher.new) }
-    ensures talk { (address : List ℕ) (lines : List PlainLine) → GoesOrStops (Acts (window_tells (output_tells W.written W.faults W.wants) (links_tell L.coming L.heard L.sent L.counts)))
-        (receive (viewer address watcher.old lines) (ToReach time)) (λ _. run (viewer address watcher.new lines) lines) result (window out.old link.old) (window out.new link.new) }
+    ensures talk { (address : List ℕ) (lines : List PlainLine)
+        → GoesOrStops (Acts (link_side_tells (output_tells W.Sink) (links_tell L.Link)))
+        (receive (viewer address watcher.old lines) (ToReach time)) (λ _.
+        run (viewer address watcher.new lines) lines) result (link_side out.old link.old) (link_side out.new link.new) }
 {
-    match reach(rt, watcher, link, time) {
-        Ok(()) => {}
-        Err(end) => return Err(end),
-    }
+    reach(rt, watcher, link, time)?;
     let time = watcher.replica.time();
-    match finish_with(watcher, out, "time", &[time]) {
-        Ok(()) => Ok(()),
-        Err(end) => Err(end),
-    }
+    finish_with(watcher, out, "time", &[time])
 }
 
 /// Waits until each event is acknowledged.
@@ -171,26 +184,29 @@ fn await_settled<R: Wait, L: Link, W: Sink>(
     out: &mut W,
 ) -> Result<(), ViewEnd>
     requires ready { IsReady watcher.old }
-    ensures kept { watcher.new ≡ record watcher.old { replica = watcher.new.replica; receives = watcher.new.receives; quiets = watcher.new.quiets } }
+    ensures kept { watcher.new ≡ record watcher.old {
+      replica = watcher.new.replica;
+      receives = watcher.new.receives;
+      quiets = watcher.new.quiets;
+    } }
     ensures ready { OnOk result (IsReady watcher.new) }
-    ensures talk { (address : List ℕ) (lines : List PlainLine) → GoesOrStops (Acts (window_tells (output_tells W.written W.faults W.wants) (links_tell L.coming L.heard L.sent L.counts)))
-        (receive (viewer address watcher.old lines) ToSettle) (λ _. run (viewer address watcher.new lines) lines) result (window out.old link.old) (window out.new link.new) }
+    ensures talk { (address : List ℕ) (lines : List PlainLine)
+        → GoesOrStops (Acts (link_side_tells (output_tells W.Sink) (links_tell L.Link)))
+        (receive (viewer address watcher.old lines) ToSettle) (λ _. run (viewer address watcher.new lines) lines) result
+        (link_side out.old link.old) (link_side out.new link.new) }
 {
-    match settle(rt, watcher, link) {
-        Ok(()) => {}
-        Err(end) => return Err(end),
-    }
+    settle(rt, watcher, link)?;
     let count = u64::from(watcher.published);
-    match finish_with(watcher, out, "settled", &[count]) {
-        Ok(()) => Ok(()),
-        Err(end) => Err(end),
-    }
+    finish_with(watcher, out, "settled", &[count])
 }
 
-/// The frame that offers the replica's snapshot.
+/// The frame that offers the replica's snapshot. It fits its fields.
 pub fn snap_frame(watcher: &Watcher) -> Result<ClientFrame, ViewEnd>
-    ensures frame { IfOk result (λ frame. frame ≡ snap_frame (worlds_of watcher.now.replica) watcher.now.replica.plain) }
-    ensures world { (address : List ℕ) (lines : List PlainLine) → IfOk result (λ frame. IsReadAsWorld (viewer address watcher.now lines) frame) }
+    ensures frame { IfOk result (λ frame. frame
+        ≡ snap_frame (worlds_of watcher.now.replica) watcher.now.replica.plain) }
+    ensures fits { IfOk result (λ frame. FitsClient frame) }
+    ensures world { (address : List ℕ) (lines : List PlainLine)
+        → IfOk result (λ frame. IsReadAsWorld (viewer address watcher.now lines) frame) }
     ensures want { IfErr result (λ end. end ≡ ViewEnd.WantOfMemory) }
 {
     match watcher.replica.snap() {
@@ -210,23 +226,20 @@ fn offer<R: Wait, L: Link>(
     link: &mut L,
 ) -> Result<SnapAnswer, ViewEnd>
     requires ready { IsReady watcher.old }
-    ensures kept { watcher.new ≡ record watcher.old { replica = watcher.new.replica; receives = watcher.new.receives; quiets = watcher.new.quiets } }
+    ensures kept { watcher.new ≡ record watcher.old {
+      replica = watcher.new.replica;
+      receives = watcher.new.receives;
+      quiets = watcher.new.quiets;
+    } }
     ensures ready { OnOk result (IsReady watcher.new) }
-    ensures talk { (address : List ℕ) (lines : List PlainLine) → GoesOrStops (LinkActs (links_tell L.coming L.heard L.sent L.counts))
-        (Sending (viewer address watcher.old lines) (snap_frame (worlds_of watcher.old.replica) watcher.old.replica.plain) [] (Receives ToSnap)) (λ answer. finish (viewer address watcher.new lines) (answer_line answer)) result link.old link.new }
+    ensures talk { (address : List ℕ) (lines : List PlainLine)
+        → GoesOrStops (LinkActs (links_tell L.Link)) (Sending (viewer address watcher.old lines)
+        (snap_frame (worlds_of watcher.old.replica) watcher.old.replica.plain) [] (Receives ToSnap)) (λ answer.
+        finish (viewer address watcher.new lines) (answer_line answer)) result link.old link.new }
 {
-    let frame = match snap_frame(watcher) {
-        Ok(frame) => frame,
-        Err(end) => return Err(end),
-    };
-    match send(watcher, link, &frame) {
-        Ok(()) => {}
-        Err(end) => return Err(end),
-    }
-    match await_answer(rt, watcher, link) {
-        Ok(answer) => Ok(answer),
-        Err(end) => Err(end),
-    }
+    let frame = snap_frame(watcher)?;
+    send(watcher, link, &frame)?;
+    await_answer(rt, watcher, link)
 }
 
 /// Tells the answer to a snapshot.
@@ -236,9 +249,14 @@ fn tell_answer<W: Sink>(
     answer: SnapAnswer,
 ) -> Result<(), ViewEnd>
     ensures kept { watcher.new ≡ record watcher.old { replica = watcher.new.replica } }
-    ensures ok { OnOk result (watcher.new.replica ≡ with_plain watcher.old.replica (takes_out watcher.old.replica.plain)) }
-    ensures printed { (address : List ℕ) (lines : List PlainLine) → OnOk result (PrintsText (output_tells W.written W.faults W.wants) Well (shown_text (viewer address watcher.old lines) (answer_line answer)) out.old out.new) }
-    ensures err { (address : List ℕ) (lines : List PlainLine) → IfErr result (λ end. StopsPrinting (output_tells W.written W.faults W.wants) end (shown_text (viewer address watcher.old lines) (answer_line answer)) out.old out.new) }
+    ensures ok { OnOk result (watcher.new.replica
+        ≡ with_plain watcher.old.replica (takes_out watcher.old.replica.plain)) }
+    ensures printed { (address : List ℕ) (lines : List PlainLine)
+        → OnOk result (PrintsText (output_tells W.Sink) Well
+        (shown_text (viewer address watcher.old lines) (answer_line answer)) out.old out.new) }
+    ensures err { (address : List ℕ) (lines : List PlainLine)
+        → IfErr result (λ end. StopsPrinting (output_tells W.Sink) end
+        (shown_text (viewer address watcher.old lines) (answer_line answer)) out.old out.new) }
 {
     match answer {
         SnapAnswer::Kept { time } => finish_with(watcher, out, "snapped", &[time]),
@@ -256,19 +274,20 @@ fn snap<R: Wait, L: Link, W: Sink>(
     out: &mut W,
 ) -> Result<(), ViewEnd>
     requires ready { IsReady watcher.old }
-    ensures kept { watcher.new ≡ record watcher.old { replica = watcher.new.replica; receives = watcher.new.receives; quiets = watcher.new.quiets } }
+    ensures kept { watcher.new ≡ record watcher.old {
+      replica = watcher.new.replica;
+      receives = watcher.new.receives;
+      quiets = watcher.new.quiets;
+    } }
     ensures ready { OnOk result (IsReady watcher.new) }
-    ensures talk { (address : List ℕ) (lines : List PlainLine) → GoesOrStops (Acts (window_tells (output_tells W.written W.faults W.wants) (links_tell L.coming L.heard L.sent L.counts)))
-        (Sending (viewer address watcher.old lines) (snap_frame (worlds_of watcher.old.replica) watcher.old.replica.plain) [] (Receives ToSnap)) (λ _. run (viewer address watcher.new lines) lines) result (window out.old link.old) (window out.new link.new) }
+    ensures talk { (address : List ℕ) (lines : List PlainLine)
+        → GoesOrStops (Acts (link_side_tells (output_tells W.Sink) (links_tell L.Link)))
+        (Sending (viewer address watcher.old lines)
+        (snap_frame (worlds_of watcher.old.replica) watcher.old.replica.plain) [] (Receives ToSnap)) (λ _.
+        run (viewer address watcher.new lines) lines) result (link_side out.old link.old) (link_side out.new link.new) }
 {
-    let answer = match offer(rt, watcher, link) {
-        Ok(answer) => answer,
-        Err(end) => return Err(end),
-    };
-    match tell_answer(watcher, out, answer) {
-        Ok(()) => Ok(()),
-        Err(end) => Err(end),
-    }
+    let answer = offer(rt, watcher, link)?;
+    tell_answer(watcher, out, answer)
 }
 
 /// Hears the link where too many events are not acknowledged, and goes on.
@@ -279,19 +298,19 @@ fn await_answers<R: Wait, L: Link, W: Sink>(
     out: &mut W,
 ) -> Result<(), ViewEnd>
     requires ready { IsReady watcher.old }
-    ensures kept { watcher.new ≡ record watcher.old { replica = watcher.new.replica; receives = watcher.new.receives; quiets = watcher.new.quiets } }
+    ensures kept { watcher.new ≡ record watcher.old {
+      replica = watcher.new.replica;
+      receives = watcher.new.receives;
+      quiets = watcher.new.quiets;
+    } }
     ensures ready { OnOk result (IsReady watcher.new) }
-    ensures talk { (address : List ℕ) (lines : List PlainLine) → GoesOrStops (Acts (window_tells (output_tells W.written W.faults W.wants) (links_tell L.coming L.heard L.sent L.counts)))
-        (receive (viewer address watcher.old lines) ToCatchUp) (λ _. run (viewer address watcher.new lines) lines) result (window out.old link.old) (window out.new link.new) }
+    ensures talk { (address : List ℕ) (lines : List PlainLine)
+        → GoesOrStops (Acts (link_side_tells (output_tells W.Sink) (links_tell L.Link)))
+        (receive (viewer address watcher.old lines) ToCatchUp) (λ _.
+        run (viewer address watcher.new lines) lines) result (link_side out.old link.old) (link_side out.new link.new) }
 {
-    match catch_up(rt, watcher, link) {
-        Ok(()) => {}
-        Err(end) => return Err(end),
-    }
-    match finish(watcher, out, "") {
-        Ok(()) => Ok(()),
-        Err(end) => Err(end),
-    }
+    catch_up(rt, watcher, link)?;
+    finish(watcher, out, "")
 }
 
 /// Sends the events that were not given yet, and hears the link where too many are not acknowledged.
@@ -302,15 +321,19 @@ fn send_and_hear<R: Wait, L: Link, W: Sink>(
     out: &mut W,
 ) -> Result<(), ViewEnd>
     requires ready { IsReady watcher.old }
-    ensures kept { watcher.new ≡ record watcher.old { replica = watcher.new.replica; receives = watcher.new.receives; quiets = watcher.new.quiets } }
+    ensures kept { watcher.new ≡ record watcher.old {
+      replica = watcher.new.replica;
+      receives = watcher.new.receives;
+      quiets = watcher.new.quiets;
+    } }
     ensures ready { OnOk result (IsReady watcher.new) }
-    ensures talk { (address : List ℕ) (lines : List PlainLine) → GoesOrStops (Acts (window_tells (output_tells W.written W.faults W.wants) (links_tell L.coming L.heard L.sent L.counts)))
-        (send_all (after_giving (viewer address watcher.old lines)) (unsent watcher.old.replica.plain) (Receives ToCatchUp)) (λ _. run (viewer address watcher.new lines) lines) result (window out.old link.old) (window out.new link.new) }
+    ensures talk { (address : List ℕ) (lines : List PlainLine)
+        → GoesOrStops (Acts (link_side_tells (output_tells W.Sink) (links_tell L.Link)))
+        (send_all (after_giving (viewer address watcher.old lines)) (unsent watcher.old.replica.plain)
+        (Receives ToCatchUp)) (λ _. run (viewer address watcher.new lines) lines) result (link_side out.old link.old)
+        (link_side out.new link.new) }
 {
-    match send_unsent(watcher, link) {
-        Ok(()) => {}
-        Err(end) => return Err(end),
-    }
+    send_unsent(watcher, link)?;
     await_answers(rt, watcher, link, out)
 }
 
@@ -321,9 +344,14 @@ fn tell_synced<W: Sink>(
     synced: Option<Synced>,
 ) -> Result<(), ViewEnd>
     ensures kept { watcher.new ≡ record watcher.old { replica = watcher.new.replica } }
-    ensures ok { OnOk result (watcher.new.replica ≡ with_plain watcher.old.replica (takes_out watcher.old.replica.plain)) }
-    ensures printed { (address : List ℕ) (lines : List PlainLine) → OnOk result (PrintsText (output_tells W.written W.faults W.wants) Well (shown_text (viewer address watcher.old lines) (rejoined_text synced)) out.old out.new) }
-    ensures err { (address : List ℕ) (lines : List PlainLine) → IfErr result (λ end. StopsPrinting (output_tells W.written W.faults W.wants) end (shown_text (viewer address watcher.old lines) (rejoined_text synced)) out.old out.new) }
+    ensures ok { OnOk result (watcher.new.replica
+        ≡ with_plain watcher.old.replica (takes_out watcher.old.replica.plain)) }
+    ensures printed { (address : List ℕ) (lines : List PlainLine)
+        → OnOk result (PrintsText (output_tells W.Sink) Well
+        (shown_text (viewer address watcher.old lines) (rejoined_text synced)) out.old out.new) }
+    ensures err { (address : List ℕ) (lines : List PlainLine)
+        → IfErr result (λ end. StopsPrinting (output_tells W.Sink) end
+        (shown_text (viewer address watcher.old lines) (rejoined_text synced)) out.old out.new) }
 {
     match synced {
         None => finish(watcher, out, ""),
@@ -346,19 +374,20 @@ pub fn send_and_tell<L: Link, W: Sink>(
     synced: Option<Synced>,
 ) -> Result<(), ViewEnd>
     requires ready { IsReady watcher.old }
-    ensures kept { watcher.new ≡ record watcher.old { replica = watcher.new.replica; receives = watcher.new.receives; quiets = watcher.new.quiets } }
+    ensures kept { watcher.new ≡ record watcher.old {
+      replica = watcher.new.replica;
+      receives = watcher.new.receives;
+      quiets = watcher.new.quiets;
+    } }
     ensures ready { OnOk result (IsReady watcher.new) }
-    ensures talk { (address : List ℕ) (lines : List PlainLine) → GoesOrStops (Acts (window_tells (output_tells W.written W.faults W.wants) (links_tell L.coming L.heard L.sent L.counts)))
-        (send_all (after_giving (viewer address watcher.old lines)) (unsent watcher.old.replica.plain) (TellsText (rejoined_text synced))) (λ _. run (viewer address watcher.new lines) lines) result (window out.old link.old) (window out.new link.new) }
+    ensures talk { (address : List ℕ) (lines : List PlainLine)
+        → GoesOrStops (Acts (link_side_tells (output_tells W.Sink) (links_tell L.Link)))
+        (send_all (after_giving (viewer address watcher.old lines)) (unsent watcher.old.replica.plain)
+        (TellsText (rejoined_text synced))) (λ _. run (viewer address watcher.new lines) lines) result
+        (link_side out.old link.old) (link_side out.new link.new) }
 {
-    match send_unsent(watcher, link) {
-        Ok(()) => {}
-        Err(end) => return Err(end),
-    }
-    match tell_synced(watcher, out, synced) {
-        Ok(()) => Ok(()),
-        Err(end) => Err(end),
-    }
+    send_unsent(watcher, link)?;
+    tell_synced(watcher, out, synced)
 }
 
 /// Watches a topic.
@@ -373,20 +402,21 @@ fn watch<W: Sink>(
     ensures kept { watcher.new ≡ record watcher.old { replica = watcher.new.replica; topics = watcher.new.topics } }
     ensures ready { OnOk result (IsReady watcher.new) }
     ensures topics { OnOk result (watcher.new.topics ≡ subscribes watcher.old.topics scope.now event.now handling) }
-    ensures ok { OnOk result (watcher.new.replica ≡ with_plain watcher.old.replica (takes_out watcher.old.replica.plain)) }
-    ensures printed { (v : Viewer) → v.topics ≡ subscribes watcher.old.topics scope.now event.now handling → v.replica ≡ watcher.old.replica.plain
-        → OnOk result (PrintsText (output_tells W.written W.faults W.wants) Well (shown_text v []) out.old out.new) }
-    ensures err { (v : Viewer) → v.topics ≡ subscribes watcher.old.topics scope.now event.now handling → v.replica ≡ watcher.old.replica.plain
-        → IfErr result (λ end. StopsPrinting (output_tells W.written W.faults W.wants) end (shown_text v []) out.old out.new) }
+    ensures ok { OnOk result (watcher.new.replica
+        ≡ with_plain watcher.old.replica (takes_out watcher.old.replica.plain)) }
+    ensures printed { (v : Viewer) → v.topics ≡ subscribes watcher.old.topics scope.now event.now handling
+        → v.replica ≡ watcher.old.replica.plain
+        → OnOk result (PrintsText (output_tells W.Sink) Well (shown_text v []) out.old out.new) }
+    ensures err { (v : Viewer) → v.topics ≡ subscribes watcher.old.topics scope.now event.now handling
+        → v.replica ≡ watcher.old.replica.plain
+        → IfErr result (λ end. StopsPrinting (output_tells W.Sink) end (shown_text v []) out.old out.new) }
 {
     let (scope, event) = match (scope.try_clone(), event.try_clone()) {
         (Ok(scope), Ok(event)) => (scope, event),
         _ => return Err(ViewEnd::WantOfMemory),
     };
-    match watcher.topics.subscribe(scope, event, handling) {
-        Ok(()) => finish(watcher, out, ""),
-        Err(WantOfMemory) => Err(ViewEnd::WantOfMemory),
-    }
+    watcher.topics.subscribe(scope, event, handling)?;
+    finish(watcher, out, "")
 }
 
 /// Tells that a vote came too late.
@@ -394,9 +424,16 @@ fn miss_vote<W: Sink>(watcher: &mut Watcher, out: &mut W) -> Result<(), ViewEnd>
     requires ready { IsReady watcher.old }
     ensures kept { watcher.new ≡ record watcher.old { replica = watcher.new.replica } }
     ensures ready { OnOk result (IsReady watcher.new) }
-    ensures ok { OnOk result (watcher.new.replica ≡ with_plain watcher.old.replica (takes_out watcher.old.replica.plain)) }
-    ensures printed { (address : List ℕ) (lines : List PlainLine) → OnOk result (PrintsText (output_tells W.written W.faults W.wants) Well (shown_text (viewer address watcher.old lines) (vote_missed_line watcher.old.replica.plain.seen)) out.old out.new) }
-    ensures err { (address : List ℕ) (lines : List PlainLine) → IfErr result (λ end. StopsPrinting (output_tells W.written W.faults W.wants) end (shown_text (viewer address watcher.old lines) (vote_missed_line watcher.old.replica.plain.seen)) out.old out.new) }
+    ensures ok { OnOk result (watcher.new.replica
+        ≡ with_plain watcher.old.replica (takes_out watcher.old.replica.plain)) }
+    ensures printed { (address : List ℕ) (lines : List PlainLine)
+        → OnOk result (PrintsText (output_tells W.Sink) Well
+        (shown_text (viewer address watcher.old lines) (vote_missed_line watcher.old.replica.plain.seen)) out.old
+        out.new) }
+    ensures err { (address : List ℕ) (lines : List PlainLine)
+        → IfErr result (λ end. StopsPrinting (output_tells W.Sink) end
+        (shown_text (viewer address watcher.old lines) (vote_missed_line watcher.old.replica.plain.seen)) out.old
+        out.new) }
 {
     let seen = watcher.replica.seen();
     finish_with(watcher, out, "vote-missed", &[u64::from(seen)])
@@ -412,18 +449,14 @@ fn tell_vote<L: Link, W: Sink>(
     requires ready { IsReady watcher.old }
     ensures kept { watcher.new ≡ record watcher.old { replica = watcher.new.replica; receives = watcher.new.receives } }
     ensures ready { OnOk result (IsReady watcher.new) }
-    ensures talk { (address : List ℕ) (lines : List PlainLine) → GoesOrStops (Acts (window_tells (output_tells W.written W.faults W.wants) (links_tell L.coming L.heard L.sent L.counts)))
-        (vote_told (viewer address watcher.old lines) at) (λ _. run (viewer address watcher.new lines) lines) result (window out.old link.old) (window out.new link.new) }
+    ensures talk { (address : List ℕ) (lines : List PlainLine)
+        → GoesOrStops (Acts (link_side_tells (output_tells W.Sink) (links_tell L.Link)))
+        (vote_told (viewer address watcher.old lines) at) (λ _. run (viewer address watcher.new lines) lines) result
+        (link_side out.old link.old) (link_side out.new link.new) }
 {
-    match send_unsent(watcher, link) {
-        Ok(()) => {}
-        Err(end) => return Err(end),
-    }
+    send_unsent(watcher, link)?;
     let number = u64::from(watcher.published);
-    match finish_with(watcher, out, "voted", &[u64::from(at), number]) {
-        Ok(()) => Ok(()),
-        Err(end) => Err(end),
-    }
+    finish_with(watcher, out, "voted", &[u64::from(at), number])
 }
 
 /// Hears the link until the view has an entry, and votes on it directly after it.
@@ -438,13 +471,12 @@ fn await_vote<R: Wait, L: Link, W: Sink>(
     requires room { watcher.old.published < most_publishes }
     ensures ready { OnOk result (IsReady watcher.new) }
     ensures count { OnOk result (watcher.new.published ≡ watcher.old.published + 1) }
-    ensures talk { (address : List ℕ) (lines : List PlainLine) → GoesOrStops (Acts (window_tells (output_tells W.written W.faults W.wants) (links_tell L.coming L.heard L.sent L.counts)))
-        (Receiving (viewer address watcher.old lines) (ToSee at)) (λ _. run (viewer address watcher.new lines) lines) result (window out.old link.old) (window out.new link.new) }
+    ensures talk { (address : List ℕ) (lines : List PlainLine)
+        → GoesOrStops (Acts (link_side_tells (output_tells W.Sink) (links_tell L.Link)))
+        (Receiving (viewer address watcher.old lines) (ToSee at)) (λ _.
+        run (viewer address watcher.new lines) lines) result (link_side out.old link.old) (link_side out.new link.new) }
 {
-    match await_entry(rt, watcher, link, at) {
-        Ok(()) => {}
-        Err(end) => return Err(end),
-    }
+    await_entry(rt, watcher, link, at)?;
     tell_vote(watcher, link, out, at)
 }
 
@@ -460,8 +492,10 @@ fn vote_on<R: Wait, L: Link, W: Sink>(
     requires room { watcher.old.published < most_publishes }
     ensures ready { OnOk result (IsReady watcher.new) }
     ensures count { OnOk result (watcher.new.published ≤ watcher.old.published + 1) }
-    ensures talk { (address : List ℕ) (lines : List PlainLine) → GoesOrStops (Acts (window_tells (output_tells W.written W.faults W.wants) (links_tell L.coming L.heard L.sent L.counts)))
-        (vote_on (viewer address watcher.old lines) at) (λ _. run (viewer address watcher.new lines) lines) result (window out.old link.old) (window out.new link.new) }
+    ensures talk { (address : List ℕ) (lines : List PlainLine)
+        → GoesOrStops (Acts (link_side_tells (output_tells W.Sink) (links_tell L.Link)))
+        (vote_on (viewer address watcher.old lines) at) (λ _. run (viewer address watcher.new lines) lines) result
+        (link_side out.old link.old) (link_side out.new link.new) }
 {
     if at <= watcher.replica.seen() {
         return miss_vote(watcher, out);
@@ -499,24 +533,31 @@ pub fn last_line(watcher: &Watcher) -> Result<String, WantOfMemory>
     }
 }
 
-/// Takes a tick of its own time, so that nothing is due at that time: the world is then the replay of the log to it.
+/// Takes a tick of its own time, so that nothing is due at that time: the world is then the replay of the log to it. A view that has not
+/// joined stays as it is. It fails only where memory broke the replica, or where the tick has no fault but may want memory.
 pub fn rest(watcher: &mut Watcher) -> Result<(), ViewEnd>
     requires ready { IsReady watcher.old }
     ensures kept { watcher.new ≡ record watcher.old { replica = watcher.new.replica } }
-    ensures rests { OnOk result (watcher.new.replica ≡ with_plain watcher.old.replica (rested (worlds_of watcher.old.replica) watcher.old.replica.plain)) }
+    ensures rests { OnOk result (watcher.new.replica
+        ≡ with_plain watcher.old.replica (rested (worlds_of watcher.old.replica) watcher.old.replica.plain)) }
     ensures ready { OnOk result (IsReady watcher.new) }
     ensures knows { KnowsItself watcher.new }
     ensures want { IfErr result (λ end. end ≡ ViewEnd.WantOfMemory) }
+    ensures cause { OnErr result (RestMayWant watcher.old.replica) }
 {
-    worlds_stand();
     if watcher.replica.broken() {
         return Err(ViewEnd::WantOfMemory);
     }
     let time = watcher.replica.time();
     match watcher.replica.take(&ServerFrame::Tick(time)) {
         Ok(()) => Ok(()),
-        // A view that has joined takes each tick that does not lie behind, but for want of memory.
-        Err(_) => Err(ViewEnd::WantOfMemory),
+        Err(ReplicaFault::Unasked) => Ok(()),
+        Err(ReplicaFault::WantOfMemory) => Err(ViewEnd::WantOfMemory),
+        Err(ReplicaFault::OutOfOrder { .. }) => unreachable!(),
+        Err(ReplicaFault::Back { .. }) => unreachable!(),
+        Err(ReplicaFault::BadBase) => unreachable!(),
+        Err(ReplicaFault::Broken) => unreachable!(),
+        Err(ReplicaFault::Refused { .. }) => unreachable!(),
     }
 }
 
@@ -525,14 +566,18 @@ fn rest_and_tell<W: Sink>(watcher: &mut Watcher, out: &mut W) -> Result<(), View
     requires ready { IsReady watcher.old }
     ensures kept { watcher.new ≡ record watcher.old { replica = watcher.new.replica } }
     ensures ready { OnOk result (IsReady watcher.new) }
-    ensures ok { OnOk result (watcher.new.replica ≡ with_plain watcher.old.replica (takes_out (rested (worlds_of watcher.old.replica) watcher.old.replica.plain))) }
-    ensures printed { (address : List ℕ) (lines : List PlainLine) → OnOk result (PrintsText (output_tells W.written W.faults W.wants) Well (shown_text (after_rest (viewer address watcher.old lines)) []) out.old out.new) }
-    ensures err { (address : List ℕ) (lines : List PlainLine) → IfErr result (λ end. StopsPrinting (output_tells W.written W.faults W.wants) end (shown_text (after_rest (viewer address watcher.old lines)) []) out.old out.new) }
+    ensures ok { OnOk result (watcher.new.replica
+        ≡ with_plain watcher.old.replica
+        (takes_out (rested (worlds_of watcher.old.replica) watcher.old.replica.plain))) }
+    ensures printed { (address : List ℕ) (lines : List PlainLine)
+        → OnOk result (PrintsText (output_tells W.Sink) Well
+        (shown_text (after_rest (viewer address watcher.old lines)) []) out.old out.new) }
+    ensures err { (address : List ℕ) (lines : List PlainLine)
+        → IfErr result (λ end. StopsPrinting (output_tells W.Sink) end
+        (shown_text (after_rest (viewer address watcher.old lines)) []) out.old out.new) }
 {
-    match rest(watcher) {
-        Ok(()) => finish(watcher, out, ""),
-        Err(end) => Err(end),
-    }
+    rest(watcher)?;
+    finish(watcher, out, "")
 }
 
 /// Rests and tells what came of it, and then the world of the view.
@@ -540,18 +585,19 @@ fn show<W: Sink>(watcher: &mut Watcher, out: &mut W) -> Result<(), ViewEnd>
     requires ready { IsReady watcher.old }
     ensures kept { watcher.new ≡ record watcher.old { replica = watcher.new.replica } }
     ensures ready { OnOk result (IsReady watcher.new) }
-    ensures ok { OnOk result (watcher.new.replica ≡ with_plain watcher.old.replica (takes_out (rested (worlds_of watcher.old.replica) watcher.old.replica.plain))) }
-    ensures printed { (address : List ℕ) (lines : List PlainLine) → OnOk result (PrintsText (output_tells W.written W.faults W.wants) Well (shown_text (after_rest (viewer address watcher.old lines)) (world_text (after_rest (viewer address watcher.old lines)))) out.old out.new) }
-    ensures err { (address : List ℕ) (lines : List PlainLine) → IfErr result (λ end. StopsPrinting (output_tells W.written W.faults W.wants) end (shown_text (after_rest (viewer address watcher.old lines)) (world_text (after_rest (viewer address watcher.old lines)))) out.old out.new) }
+    ensures ok { OnOk result (watcher.new.replica
+        ≡ with_plain watcher.old.replica
+        (takes_out (rested (worlds_of watcher.old.replica) watcher.old.replica.plain))) }
+    ensures printed { (address : List ℕ) (lines : List PlainLine)
+        → OnOk result (PrintsText (output_tells W.Sink) Well (shown_text (after_rest (viewer address watcher.old lines))
+        (world_text (after_rest (viewer address watcher.old lines)))) out.old out.new) }
+    ensures err { (address : List ℕ) (lines : List PlainLine)
+        → IfErr result (λ end. StopsPrinting (output_tells W.Sink) end
+        (shown_text (after_rest (viewer address watcher.old lines))
+        (world_text (after_rest (viewer address watcher.old lines)))) out.old out.new) }
 {
-    match rest(watcher) {
-        Ok(()) => {}
-        Err(end) => return Err(end),
-    }
-    let text = match world_text(watcher) {
-        Ok(text) => text,
-        Err(WantOfMemory) => return Err(ViewEnd::WantOfMemory),
-    };
+    rest(watcher)?;
+    let text = world_text(watcher)?;
     finish(watcher, out, text.as_str())
 }
 
@@ -560,25 +606,15 @@ fn leave<L: Link, W: Sink>(watcher: &mut Watcher, link: &mut L, out: &mut W) -> 
     requires ready { IsReady watcher.old }
     ensures kept { watcher.new ≡ record watcher.old { receives = watcher.new.receives; replica = watcher.new.replica } }
     ensures ready { OnOk result (IsReady watcher.new) }
-    ensures talk { (address : List ℕ) (lines : List PlainLine) → GoesOrStops (Acts (window_tells (output_tells W.written W.faults W.wants) (links_tell L.coming L.heard L.sent L.counts)))
-        (leave_session (viewer address watcher.old lines)) (λ _. Over ViewEnd.Done) result (window out.old link.old) (window out.new link.new) }
+    ensures talk { (address : List ℕ) (lines : List PlainLine)
+        → GoesOrStops (Acts (link_side_tells (output_tells W.Sink) (links_tell L.Link)))
+        (leave_session (viewer address watcher.old lines)) (λ _. Over ViewEnd.Done) result (link_side out.old link.old)
+        (link_side out.new link.new) }
 {
-    match rest_and_tell(watcher, out) {
-        Ok(()) => {}
-        Err(end) => return Err(end),
-    }
-    match send(watcher, link, &ClientFrame::Leave) {
-        Ok(()) => {}
-        Err(end) => return Err(end),
-    }
-    let line = match last_line(watcher) {
-        Ok(line) => line,
-        Err(WantOfMemory) => return Err(ViewEnd::WantOfMemory),
-    };
-    match print(out, line.as_bytes()) {
-        Ok(()) => Ok(()),
-        Err(end) => Err(end),
-    }
+    rest_and_tell(watcher, out)?;
+    send(watcher, link, &ClientFrame::Leave)?;
+    let line = last_line(watcher)?;
+    print(out, line.as_bytes())
 }
 
 // ---- a script
@@ -587,10 +623,8 @@ fn leave<L: Link, W: Sink>(watcher: &mut Watcher, link: &mut L, out: &mut W) -> 
 fn flow_of(done: Result<(), ViewEnd>) -> Result<LineOutcome, ViewEnd>
     ensures { result ≡ flow_of done }
 {
-    match done {
-        Ok(()) => Ok(LineOutcome::GoesOn),
-        Err(end) => Err(end),
-    }
+    done?;
+    Ok(LineOutcome::GoesOn)
 }
 
 /// Does a line.
@@ -606,18 +640,21 @@ fn run_line<R: Wait, L: Link, W: Sink>(
     requires room { watcher.old.published + line_publishes (plain_line line.now) ≤ most_publishes }
     ensures ready { OnOk result (IsReady watcher.new) }
     ensures count { OnOk result (watcher.new.published ≤ watcher.old.published + line_publishes (plain_line line.now)) }
-    ensures talk { (address : List ℕ) (lines : List PlainLine) → GoesOrStops (Acts (window_tells (output_tells W.written W.faults W.wants) (links_tell L.coming L.heard L.sent L.counts)))
-        (run (viewer address watcher.old (plain_line line.now ∷ lines)) (plain_line line.now ∷ lines)) (λ flow. flow_phase (viewer address watcher.new lines) lines flow) result (window out.old link.old) (window out.new link.new) }
+    ensures talk { (address : List ℕ) (lines : List PlainLine)
+        → GoesOrStops (Acts (link_side_tells (output_tells W.Sink) (links_tell L.Link)))
+        (run (viewer address watcher.old (plain_line line.now ∷ lines)) (plain_line line.now ∷ lines)) (λ flow.
+        flow_phase (viewer address watcher.new lines) lines flow) result (link_side out.old link.old)
+        (link_side out.new link.new) }
 {
     match line {
         ViewLine::Publish {
             scope,
             event,
             value,
-        } => match publish(watcher, scope, event, value) {
-            Ok(()) => flow_of(send_and_hear(rt, watcher, link, out)),
-            Err(end) => Err(end),
-        },
+        } => {
+            publish(watcher, scope, event, value)?;
+            flow_of(send_and_hear(rt, watcher, link, out))
+        }
         ViewLine::Watch {
             scope,
             event,
@@ -628,16 +665,16 @@ fn run_line<R: Wait, L: Link, W: Sink>(
             let time = time_after(&watcher.replica, *span);
             flow_of(wait(rt, watcher, link, out, time))
         }
-        ViewLine::Settle => match send_unsent(watcher, link) {
-            Ok(()) => flow_of(await_settled(rt, watcher, link, out)),
-            Err(end) => Err(end),
-        },
+        ViewLine::Settle => {
+            send_unsent(watcher, link)?;
+            flow_of(await_settled(rt, watcher, link, out))
+        }
         ViewLine::Snap => flow_of(snap(rt, watcher, link, out)),
         ViewLine::Cut => Ok(LineOutcome::Cuts),
-        ViewLine::Quit => match leave(watcher, link, out) {
-            Ok(()) => Ok(LineOutcome::Leaves),
-            Err(end) => Err(end),
-        },
+        ViewLine::Quit => {
+            leave(watcher, link, out)?;
+            Ok(LineOutcome::Leaves)
+        }
         ViewLine::Mark { word } => flow_of(mark(watcher, out, word)),
         ViewLine::Vote { at } => flow_of(vote_on(rt, watcher, link, out, *at)),
         ViewLine::Show => flow_of(show(watcher, out)),
@@ -657,24 +694,24 @@ pub fn run_lines<R: Wait, L: Link, W: Sink>(
     requires room { HasRoomFor watcher.old (plain_lines lines.now) }
     ensures knows { OnOk result (KnowsItself watcher.new) }
     ensures room { IfOk result (λ departure. HasRoomBehind departure watcher.new (plain_lines lines.now)) }
-    ensures talk { (address : List ℕ) → GoesOrStops (Acts (window_tells (output_tells W.written W.faults W.wants) (links_tell L.coming L.heard L.sent L.counts)))
-        (run (viewer address watcher.old (plain_lines lines.now)) (plain_lines lines.now)) (λ departure. departure_phase (viewer address watcher.new) (plain_lines lines.now) departure) result (window out.old link.old) (window out.new link.new) }
+    ensures talk { (address : List ℕ)
+        → GoesOrStops (Acts (link_side_tells (output_tells W.Sink) (links_tell L.Link)))
+        (run (viewer address watcher.old (plain_lines lines.now)) (plain_lines lines.now)) (λ departure.
+        departure_phase (viewer address watcher.new) (plain_lines lines.now) departure) result
+        (link_side out.old link.old) (link_side out.new link.new) }
 {
     for place in 0..lines.len() {
-        match run_line(rt, watcher, &lines[place], link, out) {
-            Ok(LineOutcome::GoesOn) => {}
-            Ok(LineOutcome::Cuts) => {
+        match run_line(rt, watcher, &lines[place], link, out)? {
+            LineOutcome::GoesOn => {}
+            LineOutcome::Cuts => {
                 return Ok(Departure::Again {
                     how: How::Resume,
                     count: place + 1,
                 });
             }
-            Ok(LineOutcome::Leaves) => return Ok(Departure::Done),
-            Err(end) => return Err(end),
+            LineOutcome::Leaves => return Ok(Departure::Done),
         }
     }
-    match leave(watcher, link, out) {
-        Ok(()) => Ok(Departure::Done),
-        Err(end) => Err(end),
-    }
+    leave(watcher, link, out)?;
+    Ok(Departure::Done)
 }

@@ -32,11 +32,15 @@ fn put_event(
     requires bounds { InBounds (plain value.now) }
     requires short { payload_length scope.now event.now (plain value.now) ≤ most_payload }
     requires room { watcher.old.published < most_publishes }
-    ensures kept { watcher.new ≡ record watcher.old { replica = watcher.new.replica; published = watcher.new.published } }
+    ensures kept { watcher.new ≡ record watcher.old {
+      replica = watcher.new.replica;
+      published = watcher.new.published;
+    } }
     ensures count { OnOk result (watcher.new.published ≡ watcher.old.published + 1) }
     ensures knows { KnowsItself watcher.new }
     ensures publishes { OnOk result (watcher.new.replica ≡ with_plain watcher.old.replica
-        (publishes watcher.old.replica.plain (payload_spelling (record { scope = scope.now; event = event.now; value = plain value.now })))) }
+        (publishes watcher.old.replica.plain
+        (payload_spelling (record { scope = scope.now; event = event.now; value = plain value.now })))) }
     ensures want { IfErr result (λ end. end ≡ ViewEnd.WantOfMemory) }
 {
     match watcher.replica.publish(scope, event, value) {
@@ -61,23 +65,25 @@ pub fn publish(
     requires bounds { InBounds (plain value.now) }
     requires short { payload_length scope.now event.now (plain value.now) ≤ most_payload }
     requires room { watcher.old.published < most_publishes }
-    ensures kept { watcher.new ≡ record watcher.old { replica = watcher.new.replica; published = watcher.new.published } }
+    ensures kept { watcher.new ≡ record watcher.old {
+      replica = watcher.new.replica;
+      published = watcher.new.published;
+    } }
     ensures count { OnOk result (watcher.new.published ≡ watcher.old.published + 1) }
     ensures ready { OnOk result (IsReady watcher.new) }
     ensures knows { KnowsItself watcher.new }
     ensures publishes { OnOk result (watcher.new.replica ≡ with_plain watcher.old.replica
-        (publishes watcher.old.replica.plain (payload_spelling (record { scope = scope.now; event = event.now; value = plain value.now })))) }
+        (publishes watcher.old.replica.plain
+        (payload_spelling (record { scope = scope.now; event = event.now; value = plain value.now })))) }
     ensures want { IfErr result (λ end. end ≡ ViewEnd.WantOfMemory) }
 {
-    match put_event(watcher, scope, event, value) {
-        Ok(()) => Ok(()),
-        Err(end) => Err(end),
-    }
+    put_event(watcher, scope, event, value)
 }
 
 /// The event by which a view votes on an entry: it names the digest that its world has now.
 fn world_vote(watcher: &Watcher, at: u32) -> Result<VoteEvent, WantOfMemory>
-    ensures vote { IfOk result (λ vote. payload_of vote ≡ vote_payload at (sha256 (world_spelling watcher.now.replica.plain.world))) }
+    ensures vote { IfOk result (λ vote. payload_of vote
+        ≡ vote_payload at (sha256 (world_spelling watcher.now.replica.plain.world))) }
     ensures bounds { IfOk result (λ vote. InBounds (plain vote.value)) }
     ensures length { IfOk result (λ vote. length (payload_spelling (payload_of vote)) ≡ 102) }
 {
@@ -92,16 +98,16 @@ fn world_vote(watcher: &Watcher, at: u32) -> Result<VoteEvent, WantOfMemory>
 pub fn vote(watcher: &mut Watcher, at: u32) -> Result<(), ViewEnd>
     requires heard { HasHeard watcher.old }
     requires room { watcher.old.published < most_publishes }
-    ensures kept { watcher.new ≡ record watcher.old { replica = watcher.new.replica; published = watcher.new.published } }
+    ensures kept { watcher.new ≡ record watcher.old {
+      replica = watcher.new.replica;
+      published = watcher.new.published;
+    } }
     ensures count { OnOk result (watcher.new.published ≡ watcher.old.published + 1) }
     ensures heard { HasHeard watcher.new }
     ensures votes { OnOk result (watcher.new.replica ≡ with_plain watcher.old.replica
         (publishes watcher.old.replica.plain (vote_spelling at watcher.old.replica.plain.world))) }
     ensures want { IfErr result (λ end. end ≡ ViewEnd.WantOfMemory) }
 {
-    let vote = match world_vote(watcher, at) {
-        Ok(vote) => vote,
-        Err(WantOfMemory) => return Err(ViewEnd::WantOfMemory),
-    };
+    let vote = world_vote(watcher, at)?;
     put_event(watcher, &vote.scope, &vote.event, &vote.value)
 }

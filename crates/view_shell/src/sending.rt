@@ -1,10 +1,9 @@
 //! Frames that a view sends.
-ghost use Rattle.std.specs.Prelude.{◌≡◌, ℕ, List, [], ◌<◌, ◌^◌, length, IfOk, OnOk, IsTrue};
+ghost use Rattle.std.specs.Prelude.{◌≡◌, ℕ, List, [], OnOk};
 ghost use Rattle.std.specs.List.{AllByRecursion};
 ghost use Rattle.wire_frames.specs.declared.frame.ClientFrame.{ClientFrame as Frame};
 ghost use Rattle.wire_frames.specs.declared.frame.ClientFrame.TheVariants.{Alive};
-ghost use Rattle.wire_frames.specs.Frames.{FitsClient, IsClientFrame};
-ghost use Rattle.wire_frames.specs.Spelling.{client_spelling};
+ghost use Rattle.wire_frames.specs.Frames.{FitsClient};
 ghost use Rattle.run_steps.specs.Outside.{links_tell};
 ghost use Rattle.replica_plain.specs.Calls.{gives, unsent};
 ghost use Rattle.replica.specs.View.{with_plain};
@@ -16,63 +15,27 @@ ghost use Rattle.view_shell.specs.ViewRun.{GoesOrStops, LinkActs};
 use crate::ending::ViewEnd;
 use crate::watcher::Watcher;
 use run_steps::{CallFault, send_frame};
-use std::alloc::Global;
-use tea_base::{Blob, TIME_LIMIT, WantOfMemory};
 use tea_io::Link;
-use wire_frames::{ClientFrame, Want, typed_client, write_client};
+use wire_frames::{ClientFrame, typed_client, write_client};
 
 /// A view that heard its link so often and sent nothing says that it is alive.
 pub const MOST_RECEIVES: u32 = 1000;
 
-/// Whether bytes are no more than their field can count.
-fn is_short(bytes: &Blob) -> bool
-    ensures { IsTrue result → length bytes.now < 2 ^ 32 }
-{
-    bytes.len() < 4_294_967_296
-}
-
-/// Whether each number of a frame fits its field.
-fn fits(frame: &ClientFrame) -> bool
-    ensures { IsTrue result → FitsClient frame.now }
-{
-    match frame {
-        ClientFrame::Join {
-            want: Want::After(time),
-            ..
-        } => *time < TIME_LIMIT,
-        ClientFrame::Send { payload, .. } => is_short(payload),
-        ClientFrame::Snap { time, bytes } => *time < TIME_LIMIT && is_short(bytes),
-        ClientFrame::Join { .. } | ClientFrame::Leave | ClientFrame::Alive => true,
-    }
-}
-
-/// The spelling of a frame. A replica makes no frame that does not fit; one that did would count as want of memory.
-pub fn spelling(alloc: Global, frame: &ClientFrame) -> Result<Blob, WantOfMemory>
-    ensures spelled { IfOk result (λ bytes. bytes ≡ client_spelling frame.now) }
-    ensures fits { OnOk result (IsClientFrame frame.now) }
-{
-    if !fits(frame) {
-        return Err(WantOfMemory);
-    }
-    typed_client(frame);
-    write_client(alloc, frame)
-}
-
-/// Sends a frame. A snapshot is one of the view's world.
+/// Sends a frame that fits its fields. A snapshot is one of the view's world.
 pub fn send<L: Link>(
     watcher: &mut Watcher,
     link: &mut L,
     frame: &ClientFrame,
 ) -> Result<(), ViewEnd>
+    requires { FitsClient frame.now }
     ensures kept { watcher.new ≡ record watcher.old { receives = watcher.new.receives } }
     ensures sent { OnOk result (watcher.new.receives ≡ 0) }
-    ensures talk { (v : Viewer) (frames : List Frame) (task : Task) → IsReadAsWorld v frame.now → GoesOrStops (LinkActs (links_tell L.coming L.heard L.sent L.counts))
-        (Sending v frame.now frames task) (λ _. send_all (record v { receives = 0 }) frames task) result link.old link.new }
+    ensures talk { (v : Viewer) (frames : List Frame) (task : Task) → IsReadAsWorld v frame.now
+        → GoesOrStops (LinkActs (links_tell L.Link)) (Sending v frame.now frames task) (λ _.
+        send_all (record v { receives = 0 }) frames task) result link.old link.new }
 {
-    let bytes = match spelling(watcher.alloc, frame) {
-        Ok(bytes) => bytes,
-        Err(WantOfMemory) => return Err(ViewEnd::WantOfMemory),
-    };
+    typed_client(frame); // for the prover
+    let bytes = write_client(watcher.alloc, frame)?;
     match send_frame(link, bytes.bytes()) {
         Ok(()) => {
             watcher.receives = 0;
@@ -89,16 +52,16 @@ pub fn send_all<L: Link>(
     link: &mut L,
     frames: &[ClientFrame],
 ) -> Result<(), ViewEnd>
+    requires { AllByRecursion FitsClient frames.now }
     ensures kept { watcher.new ≡ record watcher.old { receives = watcher.new.receives } }
     ensures ready { IsReady watcher.old → OnOk result (IsReady watcher.new) }
-    ensures talk { (v : Viewer) (task : Task) → v.receives ≡ watcher.old.receives → AllByRecursion (IsReadAsWorld v) frames.now → GoesOrStops (LinkActs (links_tell L.coming L.heard L.sent L.counts))
-        (send_all v frames.now task) (λ _. send_all (record v { receives = watcher.new.receives }) [] task) result link.old link.new }
+    ensures talk { (v : Viewer) (task : Task) → v.receives ≡ watcher.old.receives
+        → AllByRecursion (IsReadAsWorld v) frames.now
+        → GoesOrStops (LinkActs (links_tell L.Link)) (send_all v frames.now task) (λ _.
+        send_all (record v { receives = watcher.new.receives }) [] task) result link.old link.new }
 {
     for frame in frames {
-        match send(watcher, link, frame) {
-            Ok(()) => {}
-            Err(end) => return Err(end),
-        }
+        send(watcher, link, frame)?;
     }
     Ok(())
 }
@@ -106,19 +69,16 @@ pub fn send_all<L: Link>(
 /// Sends the events that were not given yet.
 pub fn send_unsent<L: Link>(watcher: &mut Watcher, link: &mut L) -> Result<(), ViewEnd>
     ensures kept { watcher.new ≡ record watcher.old { receives = watcher.new.receives; replica = watcher.new.replica } }
-    ensures replica { OnOk result (watcher.new.replica ≡ with_plain watcher.old.replica (gives watcher.old.replica.plain)) }
+    ensures replica { OnOk result (watcher.new.replica
+        ≡ with_plain watcher.old.replica (gives watcher.old.replica.plain)) }
     ensures ready { IsReady watcher.old → OnOk result (IsReady watcher.new) }
-    ensures talk { (address : List ℕ) (lines : List PlainLine) (task : Task) → GoesOrStops (LinkActs (links_tell L.coming L.heard L.sent L.counts))
-        (send_all (after_giving (viewer address watcher.old lines)) (unsent watcher.old.replica.plain) task) (λ _. send_all (viewer address watcher.new lines) [] task) result link.old link.new }
+    ensures talk { (address : List ℕ) (lines : List PlainLine) (task : Task)
+        → GoesOrStops (LinkActs (links_tell L.Link))
+        (send_all (after_giving (viewer address watcher.old lines)) (unsent watcher.old.replica.plain) task) (λ _.
+        send_all (viewer address watcher.new lines) [] task) result link.old link.new }
 {
-    let frames = match watcher.replica.unsent() {
-        Ok(frames) => frames,
-        Err(WantOfMemory) => return Err(ViewEnd::WantOfMemory),
-    };
-    match send_all(watcher, link, frames.as_slice()) {
-        Ok(()) => Ok(()),
-        Err(end) => Err(end),
-    }
+    let frames = watcher.replica.unsent()?;
+    send_all(watcher, link, frames.as_slice())
 }
 
 /// A view that heard its link often enough and sent nothing says that it is alive.
@@ -126,14 +86,13 @@ pub fn stay_alive<L: Link>(watcher: &mut Watcher, link: &mut L) -> Result<(), Vi
     requires heard { HasHeard watcher.old }
     ensures kept { watcher.new ≡ record watcher.old { receives = watcher.new.receives } }
     ensures ready { OnOk result (IsReady watcher.new) }
-    ensures talk { (v : Viewer) (frames : List Frame) (task : Task) → v.receives ≡ watcher.old.receives → GoesOrStops (LinkActs (links_tell L.coming L.heard L.sent L.counts))
-        (go_on v frames task) (λ _. send_all (record v { receives = watcher.new.receives }) frames task) result link.old link.new }
+    ensures talk { (v : Viewer) (frames : List Frame) (task : Task) → v.receives ≡ watcher.old.receives
+        → GoesOrStops (LinkActs (links_tell L.Link))
+        (go_on v frames task) (λ _. send_all (record v { receives = watcher.new.receives }) frames task) result link.old
+        link.new }
 {
     if watcher.receives != MOST_RECEIVES {
         return Ok(());
     }
-    match send(watcher, link, &ClientFrame::Alive) {
-        Ok(()) => Ok(()),
-        Err(end) => Err(end),
-    }
+    send(watcher, link, &ClientFrame::Alive)
 }

@@ -3,7 +3,7 @@ ghost use Rattle.std.specs.Prelude.{◌≡◌, ◌<◌, ℕ, List, [], None, Som
 ghost use Rattle.std.specs.Arc.{arc_value};
 ghost use Rattle.std.specs.List.{AllByRecursion};
 ghost use Rattle.model_solved.specs.Founding.{founding_of};
-ghost use Rattle.run_steps.specs.Outside.{Acts, booth, booth_tells, links_tell, net_tells, output_tells, window, window_tells};
+ghost use Rattle.run_steps.specs.Outside.{Acts, net_side, net_side_tells, links_tell, net_tells, output_tells, link_side, link_side_tells};
 ghost use Rattle.view_script.specs.PlainLine.{LineFits, PlainLine, plain_lines};
 ghost use Rattle.view_shell.specs.Phases.{Connecting, ToJoin, enter_session, run};
 ghost use Rattle.view_shell.specs.Viewers.{HasRoomBehind, HasRoomFor, IsReady, KnowsItself, first_phase, viewer};
@@ -54,14 +54,19 @@ fn join<R: Wait, L: Link>(
     how: How,
 ) -> Result<Synced, Stop>
     requires knows { KnowsItself watcher.old }
-    ensures kept { watcher.new ≡ record watcher.old { replica = watcher.new.replica; receives = watcher.new.receives; quiets = watcher.new.quiets } }
+    ensures kept { watcher.new ≡ record watcher.old {
+      replica = watcher.new.replica;
+      receives = watcher.new.receives;
+      quiets = watcher.new.quiets;
+    } }
     ensures ready { OnOk result (IsReady watcher.new) }
     ensures knows { KnowsItself watcher.new }
     ensures talk { (address : List ℕ) (lines : List PlainLine) → MatchResult result
-        (λ found. Goes (LinkActs (links_tell L.coming L.heard L.sent L.counts))
-        (enter_session (viewer address watcher.old lines) how) (synced_phase (viewer address watcher.new lines) how found) link.old link.new)
-        (λ stop. StopsHearing (LinkActs (links_tell L.coming L.heard L.sent L.counts)) stop
-        (enter_session (viewer address watcher.old lines) how) (viewer address watcher.new lines) (ToJoin how) link.old link.new) }
+        (λ found. Goes (LinkActs (links_tell L.Link)) (enter_session (viewer address watcher.old lines) how)
+        (synced_phase (viewer address watcher.new lines) how found) link.old link.new)
+        (λ stop. StopsHearing (LinkActs (links_tell L.Link)) stop
+        (enter_session (viewer address watcher.old lines) how) (viewer address watcher.new lines)
+        (ToJoin how) link.old link.new) }
 {
     // A replica is broken for want of memory alone.
     if watcher.replica.broken() {
@@ -69,14 +74,8 @@ fn join<R: Wait, L: Link>(
     }
     let frame = watcher.replica.join(how);
     watcher.quiets = 0;
-    match send(watcher, link, &frame) {
-        Ok(()) => {}
-        Err(end) => return Err(Stop::End(end)),
-    }
-    match await_sync(rt, watcher, link) {
-        Ok(found) => Ok(found),
-        Err(stop) => Err(stop),
-    }
+    send(watcher, link, &frame)?;
+    await_sync(rt, watcher, link)
 }
 
 /// The script of a view that joined begins; behind a cut what is not acknowledged is sent again, and told.
@@ -90,15 +89,14 @@ fn begin<L: Link, W: Sink>(
     requires ready { IsReady watcher.old }
     ensures ready { OnOk result (IsReady watcher.new) }
     ensures published { watcher.new.published ≡ watcher.old.published }
-    ensures talk { (address : List ℕ) (lines : List PlainLine) → GoesOrStops (Acts (window_tells (output_tells W.written W.faults W.wants) (links_tell L.coming L.heard L.sent L.counts)))
-        (synced_phase (viewer address watcher.old lines) how found) (λ _. run (viewer address watcher.new lines) lines) result (window out.old link.old) (window out.new link.new) }
+    ensures talk { (address : List ℕ) (lines : List PlainLine)
+        → GoesOrStops (Acts (link_side_tells (output_tells W.Sink) (links_tell L.Link)))
+        (synced_phase (viewer address watcher.old lines) how found) (λ _.
+        run (viewer address watcher.new lines) lines) result (link_side out.old link.old) (link_side out.new link.new) }
 {
     match how {
         How::Fresh | How::Whole => Ok(()),
-        How::Resume => match send_and_tell(watcher, link, out, Some(found)) {
-            Ok(()) => Ok(()),
-            Err(end) => Err(end),
-        },
+        How::Resume => send_and_tell(watcher, link, out, Some(found)),
     }
 }
 
@@ -115,22 +113,19 @@ fn attend<R: Wait, L: Link, W: Sink>(
     requires room { HasRoomFor watcher.old (plain_lines entry.now.lines.now) }
     ensures knows { OnOk result (KnowsItself watcher.new) }
     ensures room { IfOk result (λ departure. HasRoomBehind departure watcher.new (plain_lines entry.now.lines.now)) }
-    ensures talk { (address : List ℕ) → GoesOrStops (Acts (window_tells (output_tells W.written W.faults W.wants) (links_tell L.coming L.heard L.sent L.counts)))
-        (enter_session (viewer address watcher.old (plain_lines entry.now.lines.now)) entry.now.how) (λ departure. departure_phase (viewer address watcher.new) (plain_lines entry.now.lines.now) departure) result (window out.old link.old) (window out.new link.new) }
+    ensures talk { (address : List ℕ)
+        → GoesOrStops (Acts (link_side_tells (output_tells W.Sink) (links_tell L.Link)))
+        (enter_session (viewer address watcher.old (plain_lines entry.now.lines.now)) entry.now.how) (λ departure.
+        departure_phase (viewer address watcher.new) (plain_lines entry.now.lines.now) departure) result
+        (link_side out.old link.old) (link_side out.new link.new) }
 {
     let found = match join(rt, watcher, link, entry.how) {
         Ok(found) => found,
         Err(Stop::End(end)) => return Err(end),
         Err(Stop::BadBase) => return bad_base(entry.how),
     };
-    match begin(watcher, link, out, entry.how, found) {
-        Ok(()) => {}
-        Err(end) => return Err(end),
-    }
-    match run_lines(rt, watcher, entry.lines, link, out) {
-        Ok(departure) => Ok(departure),
-        Err(end) => Err(end),
-    }
+    begin(watcher, link, out, entry.how, found)?;
+    run_lines(rt, watcher, entry.lines, link, out)
 }
 
 /// What comes of a base that is none: a view that joined for the first time asks for the whole log on another link.
@@ -157,10 +152,9 @@ fn visit_links<R: Wait, N: Net, W: Sink>(
     requires knows { KnowsItself watcher.old }
     requires new { watcher.old.published ≡ 0 }
     ensures ran { ViewRan
-        (booth_tells (output_tells W.written W.faults W.wants) (net_tells N.coming N.over N.asked N.faults N.lent N.link_counts)
-        (links_tell N.Conn.coming N.Conn.heard N.Conn.sent N.Conn.counts))
+        (net_side_tells (output_tells W.Sink) (net_tells N.Net) (links_tell N.Conn.Link))
         (Connecting (viewer visit.now.address watcher.old (plain_lines visit.now.script)) How.Fresh)
-        result (booth out.old net.old None) (booth out.new net.new None) }
+        result (net_side out.old net.old None) (net_side out.new net.new None) }
 {
     let lines = visit.script.lines();
     let mut how = How::Fresh;
@@ -206,10 +200,10 @@ pub fn run_view<R: Wait, N: Net, W: Sink>(
     out: &mut W,
 ) -> ViewEnd
     ensures ran { ViewRan
-        (booth_tells (output_tells W.written W.faults W.wants) (net_tells N.coming N.over N.asked N.faults N.lent N.link_counts)
-        (links_tell N.Conn.coming N.Conn.heard N.Conn.sent N.Conn.counts))
-        (first_phase (founding_of (arc_value visit.now.program)) visit.now.id.0 visit.now.view visit.now.address (plain_lines visit.now.script))
-        result (booth out.old net.old None) (booth out.new net.new None) }
+        (net_side_tells (output_tells W.Sink) (net_tells N.Net) (links_tell N.Conn.Link))
+        (first_phase (founding_of (arc_value visit.now.program)) visit.now.id.0 visit.now.view visit.now.address
+        (plain_lines visit.now.script))
+        result (net_side out.old net.old None) (net_side out.new net.new None) }
 {
     let Ok(program) = visit.program.clone() else {
         return ViewEnd::WantOfMemory;

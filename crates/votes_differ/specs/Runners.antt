@@ -17,7 +17,8 @@ use Rattle.command_votes.specs.VoteRead.{vote_of, votes_of}
 
 -- An entry is the vote on another entry of a view that runs the program on the log: the view's replica follows the log, takes that
 -- entry of it, and the event is the one by which a view with that world votes.
-pub record IsVoteOfRunner (m : Worlds WorldRecord PlainOutgoing) (log : List Entry) (at : ℕ) (vote : Entry) : Type 0 where
+pub record IsVoteOfRunner (m : Worlds WorldRecord PlainOutgoing) (log : List Entry) (at : ℕ)
+    (vote : Entry) : Type 0 where
   pub replica : PlainReplica WorldRecord PlainOutgoing
   pub taken : Entry
   pub takes : TakesNext m log replica taken
@@ -38,12 +39,15 @@ pub record OneDidNotRun (m : Worlds WorldRecord PlainOutgoing) (log : List Entry
 -- program on the log.
 abbrev pub DivergedShows : Type 0
 DivergedShows =
-    (founding : Founding) (id : List ℕ) (before after : List Entry) (entry : Entry) (vote : Ballot) (first : ℕ) (digest : List ℕ) → IsFounding founding
-    → IsLegal (before ++ entry ∷ after) → vote_of entry ≡ Some vote → vote_answer (counted (votes_of before)) vote ≡ Diverged first digest
+    (founding : Founding) (id : List ℕ) (before after : List Entry) (entry : Entry) (vote : Ballot) (first : ℕ)
+    (digest : List ℕ) → IsFounding founding
+    → IsLegal (before ++ entry ∷ after) → vote_of entry ≡ Some vote
+    → vote_answer (counted (votes_of before)) vote ≡ Diverged first digest
     → OneDidNotRun (worlds founding id) (before ++ entry ∷ after) vote.at first entry.seq
 
 -- the same of the two votes that a verdict on a log names
 abbrev pub SplitsShow : Type 0
 SplitsShow =
     (founding : Founding) (id : List ℕ) (log : List Entry) (at first second : ℕ) → IsFounding founding → IsLegal log
-    → (verdict_on (counted (votes_of log)) at).split ≡ Some (first, second) → OneDidNotRun (worlds founding id) log at first second
+    → (verdict_on (counted (votes_of log)) at).split ≡ Some (first, second)
+    → OneDidNotRun (worlds founding id) log at first second

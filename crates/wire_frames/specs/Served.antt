@@ -61,11 +61,13 @@ IsEventAt log seq time view number payload =
 
 -- the answer that a frame of a view may have; None is a frame that could not be read
 abbrev pub AnswersFrame : List Entry → ℕ → Option ClientFrame → ServerFrame → Type 0
-AnswersFrame log view (Some (client.Send number payload)) (Done done seq time) = (done ≡ number) × IsEventAt log seq time view number payload
+AnswersFrame log view (Some (client.Send number payload)) (Done done seq time) =
+    (done ≡ number) × IsEventAt log seq time view number payload
 AnswersFrame log view (Some (client.Send number payload)) (Refused about code kept more) = about ≡ SEND_TAG
 AnswersFrame log view (Some (client.Snap time bytes)) (Snapped snapped) = snapped ≡ time
 AnswersFrame log view (Some (client.Snap time bytes)) (Refused about code kept more) = about ≡ SNAP_TAG
-AnswersFrame log view (Some (client.Join session other want)) (Refused about code kept more) = (about ≡ JOIN_TAG) × (code ≡ code_number refusal.AlreadyJoined)
+AnswersFrame log view (Some (client.Join session other want)) (Refused about code kept more) =
+    (about ≡ JOIN_TAG) × (code ≡ code_number refusal.AlreadyJoined)
 AnswersFrame log view (Some client.Leave) (Refused about code kept more) = about ≡ LEAVE_TAG
 AnswersFrame log view (Some client.Alive) Alive = Unit {0}
 AnswersFrame log view None (Refused about code kept more) = (about ≡ NO_TAG) × (code ≡ code_number refusal.BadFrame)
@@ -103,13 +105,15 @@ BeginsFor log (want.After after) time from None = (after < time) × (from ≡ co
 BeginsFor log (want.After after) time from (Some base) = ⊥
 
 -- a SYNC answers a JOIN: its entry of the log, how many Events the view sent before it, and where the entries begin
-pub record AnswersJoin (log : List Entry) (view : ℕ) (want : Want) (joined last from time : ℕ) (base : Option Base) : Type 0 where
+pub record AnswersJoin (log : List Entry) (view : ℕ) (want : Want) (joined last from time : ℕ)
+    (base : Option Base) : Type 0 where
   pub entry : slice_get log (joined - 1) ≡ Some (record { seq = joined; time = time; view = view; what = what.Join })
   pub counted : last ≡ last_number (take (joined - 1) log) view
   pub begins : BeginsFor log want time from base
 
 -- after the SYNC of a join at a time: entries from there on, ticks between them, and the answers
-pub record ServedFrom (log : List Entry) (view : ℕ) (place : Place) (given : List (Option ClientFrame)) (frames : List ServerFrame) : Type 0 where
+pub record ServedFrom (log : List Entry) (view : ℕ) (place : Place) (given : List (Option ClientFrame))
+    (frames : List ServerFrame) : Type 0 where
   pub streams : Streams log place frames
   pub answers : AnswersInOrder log view given (answers_of frames)
 
@@ -118,5 +122,6 @@ abbrev pub Served : List Entry → List (Option ClientFrame) → List ServerFram
 Served log given [] = Unit {0}
 Served log given (Refused about code kept more ∷ rest) = rest ≡ []
 Served log (Some (client.Join session view want) ∷ given) (Sync joined last from base ∷ rest) =
-    (time : ℕ) × AnswersJoin log view want joined last from time base × ServedFrom log view (record { seen = from; least = time }) given rest
+    (time : ℕ) × AnswersJoin log view want joined last from time base
+    × ServedFrom log view (record { seen = from; least = time }) given rest
 Served log given (frame ∷ rest) = ⊥

@@ -10,9 +10,8 @@ use Rattle.model_tree.specs.Tree.{ProgramTree}
 use Rattle.model_eval.specs.Kept.{now_due}
 use Rattle.model_eval.specs.Kept as kept
 use Rattle.world.specs.Worlds.{Scene, scene_with_world, with_next_turn, at_later_time, first_where, due, after_method, after_message, enough, on_due, advance_within, advance}
-use Rattle.world.specs.View.{AreBehind}
 use Rattle.world.proofs.Running.{Fits, begun-valid, ran-keeps}
-use Rattle.world.proofs.Moving.{due-none, due-some, moved-valid, taken-valid, first-fits, rest-from, arrived-valid}
+use Rattle.world.proofs.Moving.{AllFrom, due-none, due-some, moved-valid, taken-valid, first-fits, rest-from, arrived-valid}
 
 -- the world as a message begins: its time is the message's, and one more turn counts
 abbrev pub opened : PlainMessage → List PlainMessage → WorldRecord → WorldRecord
@@ -210,7 +209,7 @@ behind-due : (counts : List ℕ) (s t : ℕ) (a : Scene) (d : PlainMessage × Li
 behind-due counts s t a d v none some =
     let is = is-due t a d some in
     let all = due-none s a.world.pending v.messages.order none in
-    let here : AreBehind s (d.0 ∷ d.1) = subst (AreBehind s) is.first all in
+    let here : AllFrom (s + 1) (d.0 ∷ d.1) = subst (AllFrom (s + 1)) is.first all in
     omega (arith, here.0)
 
 module _ (counts : List ℕ) (program : ProgramTree) (s t : ℕ) (fits : Fits counts program) (le : s ≤ t) (below : s < time_limit) where

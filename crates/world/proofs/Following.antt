@@ -1,4 +1,4 @@
--- A world that follows a log, taken up at its time, goes on as the replay of the whole log.
+-- A world that has come to the replay of a log at its time, taken up there, goes on as the replay of the whole log.
 use Rattle.std.proofs.Common.{◌≡◌, ℕ, ◌<◌, ◌≤◌, Bool, true, false, if◌then◌else◌, cond, nat_le, List, [], ◌∷◌, refl, sym, ap, ◌∙◌, arith}
 use Rattle.std.proofs.lemmas.Bool.{leb-true, leb-false, le-leb, lt-leb, le-ltb, lt-ltb}
 use Rattle.tea_base.specs.Legal.{IsLegal, TimesRiseAfter}
@@ -8,7 +8,7 @@ use Rattle.world_plain.specs.World.{WorldRecord}
 use Rattle.world_plain.specs.Valid.{Valid}
 use Rattle.tea_base.specs.Limits.{time_limit}
 use Rattle.model_tree.specs.Tree.{ProgramTree}
-use Rattle.world.specs.Worlds.{Scene, Founding, advance, first_scene, external, replay_from, replay, take_up, entries_behind, replay_on, Follows}
+use Rattle.world.specs.Worlds.{Scene, Founding, advance, first_scene, external, replay_from, replay, take_up, entries_behind, replay_on}
 use Rattle.world.proofs.Running.{Fits}
 use Rattle.world.proofs.Advancing.{advance-twice}
 use Rattle.world.proofs.Entries.{external-valid}
@@ -86,6 +86,6 @@ module _ (counts : List ℕ) (program : ProgramTree) (s t : ℕ) (fits : Fits co
       step (nat_le e.time s) e es a r refl rise.1 va vr meet (λ u valid same. followed e.time es a u rise.1 va valid same)
 
 pub follows-on : (counts : List ℕ) (founding : Founding) (w : WorldRecord) (entries : List Entry) (t : ℕ) → Fits counts founding.tree → Valid counts w → Valid counts (first_scene founding w.id).world → IsLegal entries
-    → w.time ≤ t → t < time_limit → Follows founding w entries → (replay_on founding.tree w entries t).world ≡ (replay founding w.id entries t).world
+    → w.time ≤ t → t < time_limit → (advance founding.tree w.time (take_up w)).world ≡ (replay founding w.id entries w.time).world → (replay_on founding.tree w entries t).world ≡ (replay founding w.id entries t).world
 follows-on counts founding w entries t fits v begins legal le below follows =
     followed counts founding.tree w.time t fits le below 0 entries (take_up w) (first_scene founding w.id) (TimesRise-legal entries legal) v begins follows

@@ -1,6 +1,6 @@
 -- A world whose time is moved, or whose least message is taken, stays valid.
-use Rattle.std.proofs.Common.{◌≡◌, ℕ, ◌+◌, ◌<◌, ◌≤◌, inl, inr, Bool, true, false, if◌then◌else◌, nat_lt, nat_le, List, [], ◌∷◌, length, Some, None, refl, sym, ap, ◌∙◌, subst, arith}
-use Rattle.std.proofs.lemmas.Bool.{leb-true, leb-false, lt-leb}
+use Rattle.std.proofs.Common.{◌≡◌, ℕ, ◌+◌, ◌<◌, ◌≤◌, inl, inr, Bool, true, false, if◌then◌else◌, ◌&&◌, nat_lt, nat_le, List, [], ◌∷◌, length, Some, None, refl, sym, ap, ◌∙◌, subst, arith}
+use Rattle.std.proofs.lemmas.Bool.{and_parts, leb-true, leb-false, lt-leb, lt-ltb, ltb-true}
 use Rattle.std.proofs.lemmas.Option.{none-some, same_Some}
 use Rattle.saved_value.specs.Saving.{saved_weight}
 use Rattle.world_plain.specs.Messages.{PlainMessage}
@@ -8,7 +8,7 @@ use Rattle.world_plain.specs.World.{ObjectRecord, WorldRecord, total_weight, obj
 use Rattle.world_plain.specs.Valid.{Valid, ValidMessages, most_turns, most_messages, PrecedesAll, AreInOrder, MessageFits, MessagesFit, NumbersDiffer}
 use Rattle.tea_base.specs.Limits.{time_limit}
 use Rattle.model_eval.proofs.ValidLaws.{valid-beside, valid-around}
-use Rattle.world.specs.View.{AreBehind}
+use Rattle.world.specs.View.{are_behind}
 use Rattle.world.specs.Worlds.{at_later_time, first_where, due}
 
 abbrev pub AllFrom : ℕ → List PlainMessage → Type 0
@@ -25,20 +25,25 @@ none_due : (t : ℕ) (b : Bool) (m : PlainMessage) (ms : List PlainMessage) → 
 none_due t true m ms e h = absurd (none-some (m, ms) (sym h))
 none_due t false m ms e h = leb-false m.time t (sym e)
 
-from-behind : (t u : ℕ) (ms : List PlainMessage) → t < u → AllFrom u ms → AreBehind t ms
-from-behind t u [] lt h = tt
-from-behind t u (m ∷ ms) lt h = (omega (arith, lt, h.0), from-behind t u ms lt h.1)
+all-from : (t u : ℕ) (ms : List PlainMessage) → t ≤ u → AllFrom u ms → AllFrom t ms
+all-from t u [] le h = tt
+all-from t u (m ∷ ms) le h = (omega (arith, le, h.0), all-from t u ms le h.1)
 
-pub due-none : (t : ℕ) (ms : List PlainMessage) → AreInOrder ms → due t ms ≡ None → AreBehind t ms
+pub due-none : (t : ℕ) (ms : List PlainMessage) → AreInOrder ms → due t ms ≡ None → AllFrom (t + 1) ms
 due-none t [] o h = tt
 due-none t (m ∷ ms) o h =
     let lt : t < m.time = none_due t (nat_le m.time t) m ms refl h in
-    (lt, from-behind t m.time ms lt (preceded-from m ms o.0))
+    (omega (arith, lt), all-from (t + 1) m.time ms (omega (arith, lt)) (preceded-from m ms o.0))
 
 -- where all lies behind, nothing is due
-pub behind-none : (t : ℕ) (ms : List PlainMessage) → AreBehind t ms → due t ms ≡ None
+pub behind-none : (t : ℕ) (ms : List PlainMessage) → are_behind t ms ≡ true → due t ms ≡ None
 behind-none t [] behind = refl
-behind-none t (m ∷ ms) behind = ap (λ b. first_where b m ms) (lt-leb m.time t behind.0)
+behind-none t (m ∷ ms) behind = ap (λ b. first_where b m ms) (lt-leb m.time t (ltb-true t m.time (and_parts (nat_lt t m.time) (are_behind t ms) behind).0))
+
+-- what lies from the next time on lies behind
+pub from-behind : (t : ℕ) (ms : List PlainMessage) → AllFrom (t + 1) ms → are_behind t ms ≡ true
+from-behind t [] from = refl
+from-behind t (m ∷ ms) from = ap (λ b. b && are_behind t ms) (lt-ltb t m.time (omega (arith, from.0))) ∙ from-behind t ms from.1
 
 -- a message that is due stands first
 pub record IsFirst (t : ℕ) (ms : List PlainMessage) (m : PlainMessage) (rest : List PlainMessage) : Type 0 where
@@ -96,10 +101,6 @@ rest-from counts w m rest e v =
     let order : AreInOrder (m ∷ rest) = subst AreInOrder e v.messages.order in
     preceded-from m rest order.0
 
-behind-from : (t : ℕ) (ms : List PlainMessage) → AreBehind t ms → AllFrom t ms
-behind-from t [] h = tt
-behind-from t (m ∷ ms) h = (omega (arith, h.0), behind-from t ms h.1)
-
 -- where nothing is due, the time may become t
 pub arrived-valid : (counts : List ℕ) (t : ℕ) (w : WorldRecord) → t < time_limit → due t w.pending ≡ None → Valid counts w → Valid counts (at_later_time t w)
-arrived-valid counts t w below none v = moved-valid counts t w below (behind-from t w.pending (due-none t w.pending v.messages.order none)) v
+arrived-valid counts t w below none v = moved-valid counts t w below (all-from t (t + 1) w.pending (omega arith) (due-none t w.pending v.messages.order none)) v

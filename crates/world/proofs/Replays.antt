@@ -19,7 +19,7 @@ use Rattle.model_tree.specs.Tree.{Name, ClassTree, ProgramTree}
 use Rattle.world_state.specs.declared.fault.Fault.TheVariants.{Full}
 use Rattle.model_eval.proofs.ValueBounds.{int-in_bounds}
 use Rattle.model_eval.specs.Publishing.{view_notice}
-use Rattle.world.specs.Worlds.{Scene, Founding, init_arguments, scene_with_world, with_fault, field_counts, with_next_turn, after_method, init, empty_world, with_root, root_from, first_with, first_scene, at_later_time, due, after_message, on_due, advance_within, advance, enough, is_view_here, with_view, without_view, after_telling_of, session_scope, view_join, view_exit, after_join, after_exit, after_event, after_entry, external, replay_from, replay, take_up, entries_behind, replay_on, Follows}
+use Rattle.world.specs.Worlds.{Scene, Founding, init_arguments, scene_with_world, with_fault, field_counts, with_next_turn, after_method, init, empty_world, with_root, root_from, first_with, first_scene, at_later_time, due, after_message, on_due, advance_within, advance, enough, is_view_here, with_view, without_view, after_telling_of, session_scope, view_join, view_exit, after_join, after_exit, after_event, after_entry, external, replay_from, replay, take_up, entries_behind, replay_on}
 use Rattle.world.proofs.Running.{Fits, ran-keeps, informed-keeps}
 use Rattle.world.proofs.Advancing.{advance-valid, advance-arrives, advance-twice}
 use Rattle.world.proofs.Entries.{external-valid}
@@ -173,12 +173,7 @@ module _ (founding : Founding) (fits : Fits (field_counts founding.tree) foundin
       let zero_is = stays.time in
       stands founding.tree fits t 0 id entries (first_scene founding id) below (TimesRise-legal entries legal) begins stays.id (omega (arith, zero_is)) (omega (arith, zero_is))
 
-  follows-if : (t : ℕ) (id : List ℕ) (entries : List Entry) (s : Scene) → s ≡ replay founding id entries t → Stands founding.tree fits id t s → Follows founding s.world entries
-  follows-if t id entries s is stands =
-      let P : ℕ → List ℕ → Type 0 = λ u i. (advance founding.tree u (take_up s.world)).world ≡ (replay founding i entries u).world in
-      let Q : ℕ → Type 0 = λ u. P u s.world.id in
-      subst Q (sym stands.time) (subst (P t) (sym stands.session)
-      (sym (advance-by_world founding.tree t s) ∙ ap (λ (x : Scene). x.world) (stands.rests ∙ is)))
-
-  pub replay-follows : (id : List ℕ) (entries : List Entry) (t : ℕ) → Valid (field_counts founding.tree) (first_scene founding id).world → IsLegal entries → t < time_limit → Follows founding (replay founding id entries t).world entries
-  replay-follows id entries t begins legal below = follows-if t id entries (replay founding id entries t) refl (replay-stands id entries t begins legal below)
+  pub replay-stays : (id : List ℕ) (entries : List Entry) (t : ℕ) → Valid (field_counts founding.tree) (first_scene founding id).world → IsLegal entries → t < time_limit
+      → (advance founding.tree t (take_up (replay founding id entries t).world)).world ≡ (replay founding id entries t).world
+  replay-stays id entries t begins legal below =
+      sym (advance-by_world founding.tree t (replay founding id entries t)) ∙ ap (λ (x : Scene). x.world) (replay-stands id entries t begins legal below).rests

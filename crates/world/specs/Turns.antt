@@ -29,7 +29,13 @@ pub record PlainRan : Type 0 where
 
 -- a message as it begins in a world; in a valid world its object is there
 abbrev pub ran_in : WorldRecord → PlainMessage → PlainRan
-ran_in w m = record { time = m.time; object = m.object; class = class_of (object_at w.objects m.object); method = m.method; args = m.args }
+ran_in w m = record {
+  time = m.time;
+  object = m.object;
+  class = class_of (object_at w.objects m.object);
+  method = m.method;
+  args = m.args;
+}
 
 -- what runs next up to t, if anything does
 abbrev pub next_ran : ℕ → WorldRecord → Option PlainRan
@@ -56,16 +62,27 @@ begun_with None w = w
 begun_with (Some root) w = with_root root.0 root.1 w
 
 abbrev pub begun : Founding → List ℕ → Scene
-begun founding id = record { world = begun_with (root_from 0 founding.tree) (with_next_turn (empty_world founding.persisted id)); published = [] }
+begun founding id = record {
+  world = begun_with (root_from 0 founding.tree)
+      (with_next_turn (empty_world founding.persisted id));
+  published = [];
+}
 
 -- the `init` of that object
 abbrev pub init_ran : PlainValue → ℕ × ClassTree → PlainRan
-init_ran persisted root = record { time = 0; object = 1; class = Some root.0; method = init; args = init_arguments persisted root.1 }
+init_ran persisted root = record {
+  time = 0;
+  object = 1;
+  class = Some root.0;
+  method = init;
+  args = init_arguments persisted root.1;
+}
 
 -- it runs if the class has one
 abbrev pub first_ran_of : PlainValue → Option (ℕ × ClassTree) → Option PlainRan
 first_ran_of persisted None = None
-first_ran_of persisted (Some root) = if is_some (method_named init root.1.methods) then Some (init_ran persisted root) else None
+first_ran_of persisted (Some root) =
+    if is_some (method_named init root.1.methods) then Some (init_ran persisted root) else None
 
 abbrev pub first_ran : Founding → Option PlainRan
 first_ran founding = first_ran_of founding.persisted (root_from 0 founding.tree)
@@ -79,7 +96,11 @@ after_first program (Some ran) s = after_method program ran.object ran.method ra
 
 -- an event, and how many handlers it has in a world
 abbrev pub heard_in : WorldRecord → Name → Name → HeardEvent
-heard_in w scope event = record { scope = scope; event = event; handlers = length (handlers_of scope event w.subscriptions) }
+heard_in w scope event = record {
+  scope = scope;
+  event = event;
+  handlers = length (handlers_of scope event w.subscriptions);
+}
 
 -- that a view joins which was not here, where there is room for it
 abbrev pub join_heard : WorldRecord → ℕ → Option HeardEvent
@@ -105,7 +126,10 @@ heard_of w view (Event number payload) = event_heard w (whole_payload payload)
 
 -- Where models hear an event of an entry, the entry tells just that event to its handlers; else it changes nothing but counts of faults.
 abbrev pub TellsHeard : ProgramTree → What → ℕ → Scene → Option HeardEvent → Type 0
-TellsHeard program what view s None = (counts : List ℕ) × (after_entry program what view s ≡ scene_with_world s (record (s.world) { faults = counts }))
+TellsHeard program what view s None =
+    (counts : List ℕ) × (after_entry program what view s ≡ scene_with_world s (record (s.world) { faults = counts }))
 TellsHeard program what view s (Some heard) =
     (views : List ℕ) × (value : PlainValue)
-    × (after_entry program what view s ≡ after_telling program heard.scope heard.event (view_notice view value) (scene_with_world s (record (s.world) { views = views })))
+    × (after_entry program what view s
+    ≡ after_telling program heard.scope heard.event (view_notice view value)
+    (scene_with_world s (record (s.world) { views = views })))

@@ -1,5 +1,6 @@
 -- What contracts see of worlds.
-use Rattle.std.specs.Prelude.{◌≡◌, ◌<◌, ℕ, Bool, true, false, List, [], ◌∷◌, map, Option, Some, None, Result, Ok, Err, ⊤, length, remove, refl}
+use Rattle.std.specs.Prelude.{◌≡◌, ◌<◌, ℕ, Bool, true, false, nat_lt, List, [], map, Option, Some, None, Result, Ok, Err, ⊤, length, remove, refl}
+use Rattle.std.specs.List.{list_all}
 use Rattle.std.specs.Coded.{Coded, code_by, coded×, coded_bool, coded_list}
 use Rattle.world_plain.specs.Messages.{PlainMessage, PlainOutgoing, plain_message, plain_outgoing, coded_outgoing}
 use Rattle.world_plain.specs.World.{WorldRecord, world_record}
@@ -24,16 +25,26 @@ scene state = record { world = world_of state; published = map plain_outgoing st
 abbrev pub TakesDue : Option Message → ℕ → Scene → Scene → Type 0
 TakesDue None t before after = (due t before.world.pending ≡ None) × (after ≡ before)
 TakesDue (Some m) t before after =
-    (rest : List PlainMessage) × (due t before.world.pending ≡ Some (plain_message m, rest)) × (after ≡ scene_with_world before (record (before.world) { pending = rest }))
+    (rest : List PlainMessage) × (due t before.world.pending ≡ Some (plain_message m, rest))
+    × (after ≡ scene_with_world before (record (before.world) { pending = rest }))
 
 -- a message that ran, with plain values in it
 abbrev pub plain_ran : RanMessage → PlainRan
-plain_ran ran = record { time = ran.time; object = ran.object; class = Some ran.class; method = ran.method; args = plain_values ran.args }
+plain_ran ran = record {
+  time = ran.time;
+  object = ran.object;
+  class = Some ran.class;
+  method = ran.method;
+  args = plain_values ran.args;
+}
 
 -- each message is of a later time
-abbrev pub AreBehind : ℕ → List PlainMessage → Type 0
-AreBehind t [] = Unit {0}
-AreBehind t (m ∷ ms) = (t < m.time) × AreBehind t ms
+abbrev pub are_behind : ℕ → List PlainMessage → Bool
+are_behind t messages = list_all (λ m. nat_lt t m.time) messages
+
+-- no pending message has the world's own time or less
+abbrev pub is_at_rest : WorldRecord → Bool
+is_at_rest w = are_behind w.time w.pending
 
 -- where a view is taken away
 abbrev pub IsPlaceOfView : Option ℕ → ℕ → List ℕ → Type 0
@@ -66,8 +77,10 @@ pub record IsSoundWorld (w : WorldView) : Type 0 where
 abbrev pub MovesOn : Result ⊤ WorldFault → WorldView → WorldView → Bool → Scene → Type 0
 MovesOn (Ok done) old new back meant = (old.broken ≡ false) × (back ≡ false) × (new ≡ record old { scene = meant })
 MovesOn (Err fault.Broken) old new back meant = (old.broken ≡ true) × (new ≡ old)
-MovesOn (Err (fault.Back time)) old new back meant = (old.broken ≡ false) × (back ≡ true) × (time ≡ old.scene.world.time) × (new ≡ old)
-MovesOn (Err fault.WantOfMemory) old new back meant = (old.broken ≡ false) × (back ≡ false) × (new.broken ≡ true) × (new.scene.published ≡ []) × (new.program ≡ old.program)
+MovesOn (Err (fault.Back time)) old new back meant =
+    (old.broken ≡ false) × (back ≡ true) × (time ≡ old.scene.world.time) × (new ≡ old)
+MovesOn (Err fault.WantOfMemory) old new back meant = (old.broken ≡ false) × (back ≡ false) × (new.broken ≡ true)
+    × (new.scene.published ≡ []) × (new.program ≡ old.program)
 
 -- the same call, whatever it tells
 abbrev pub done : {A : Type 0} → Result A WorldFault → Result ⊤ WorldFault

@@ -1,6 +1,6 @@
 -- Worlds: the first one of a session, what a message does, how a world advances, what an entry of the log does to it, and how
 -- one that was put away goes on.
-use Rattle.std.specs.Prelude.{◌≡◌, ℕ, zero, suc, ◌+◌, ◌-◌, ◌*◌, ◌^◌, min, Bool, true, false, nat_eq, nat_lt, nat_le, if◌then◌else◌, ◌||◌, List, [], ◌∷◌, length, replicate, take, Option, Some, None, is_some, slice_index_or, slice_set, bytes_eq, codes, pos}
+use Rattle.std.specs.Prelude.{ℕ, zero, suc, ◌+◌, ◌-◌, ◌*◌, ◌^◌, min, Bool, true, false, nat_eq, nat_lt, nat_le, if◌then◌else◌, ◌||◌, List, [], ◌∷◌, length, replicate, take, Option, Some, None, is_some, slice_index_or, slice_set, bytes_eq, codes, pos}
 use Rattle.std.specs.Int.{from_le_bytes, w64}
 use Rattle.std.specs.List.{filter}
 use Rattle.hex.specs.Hex.{encode_lower}
@@ -124,15 +124,18 @@ init_arguments persisted class = one_or_both (takes_two (method_named init class
 -- a class without `init` starts nothing
 abbrev pub with_root_init : Founding → ClassTree → Scene → Scene
 with_root_init founding class s =
-    if is_some (method_named init class.methods) then after_method founding.tree 1 init (init_arguments founding.persisted class) s else s
+    if is_some (method_named init class.methods) then after_method founding.tree 1 init
+    (init_arguments founding.persisted class) s else s
 
 abbrev pub first_with : Founding → Option (ℕ × ClassTree) → WorldRecord → Scene
 first_with founding None w = record { world = w; published = [] }
-first_with founding (Some root) w = with_root_init founding root.1 (record { world = with_root root.0 root.1 w; published = [] })
+first_with founding (Some root) w =
+    with_root_init founding root.1 (record { world = with_root root.0 root.1 w; published = [] })
 
 -- one message makes the object of class Root and starts its `init`
 abbrev pub first_scene : Founding → List ℕ → Scene
-first_scene founding id = first_with founding (root_from 0 founding.tree) (with_next_turn (empty_world founding.persisted id))
+first_scene founding id = first_with founding (root_from 0 founding.tree)
+    (with_next_turn (empty_world founding.persisted id))
 
 -- ---- advance
 
@@ -151,7 +154,8 @@ due t (m ∷ ms) = first_where (nat_le m.time t) m ms
 
 abbrev pub after_message : ProgramTree → PlainMessage → List PlainMessage → Scene → Scene
 after_message program m rest s =
-    after_method program m.object m.method m.args (scene_with_world s (with_next_turn (at_later_time m.time (record (s.world) { pending = rest }))))
+    after_method program m.object m.method m.args
+    (scene_with_world s (with_next_turn (at_later_time m.time (record (s.world) { pending = rest }))))
 
 -- No more messages than this are due up to t: at one time at most 1,024 of them can add others to it, and the time rises.
 abbrev pub enough : ℕ → WorldRecord → ℕ
@@ -188,7 +192,8 @@ without_view view (v ∷ vs) = if nat_eq view v then vs else v ∷ without_view 
 
 -- models alone are told of an event, as a message of its own: with all steps and nothing open
 abbrev pub after_telling : ProgramTree → Name → Name → Notice → Scene → Scene
-after_telling program scope event notice s = scene_of_outcome (tell_handlers program (starts program most_open) scope event notice (with_full_budget s))
+after_telling program scope event notice s =
+    scene_of_outcome (tell_handlers program (starts program most_open) scope event notice (with_full_budget s))
 
 -- the scope of what the session tells of its views: its id in hexadecimal digits
 abbrev pub session_scope : WorldRecord → Name
@@ -202,19 +207,22 @@ view_exit = codes "view-exit"
 
 -- models are told of a view, by its number; it is the sender too
 abbrev pub after_telling_of : ProgramTree → Name → ℕ → Scene → Scene
-after_telling_of program event view s = after_telling program (session_scope s.world) event (view_notice view (int (pos view))) s
+after_telling_of program event view s =
+    after_telling program (session_scope s.world) event (view_notice view (int (pos view))) s
 
 abbrev pub after_join : ProgramTree → ℕ → Scene → Scene
 after_join program view s =
     let w = s.world in
     if nat_eq view 0 || is_view_here view w.views then s
-    else (if nat_lt (length w.views) most_here then after_telling_of program view_join view (scene_with_world s (record w { views = with_view view w.views }))
+    else (if nat_lt (length w.views) most_here then after_telling_of program view_join view
+    (scene_with_world s (record w { views = with_view view w.views }))
     else scene_with_world s (with_fault fault.Full w))
 
 abbrev pub after_exit : ProgramTree → ℕ → Scene → Scene
 after_exit program view s =
     let w = s.world in
-    if is_view_here view w.views then after_telling_of program view_exit view (scene_with_world s (record w { views = without_view view w.views })) else s
+    if is_view_here view w.views then after_telling_of program view_exit view
+    (scene_with_world s (record w { views = without_view view w.views })) else s
 
 -- an event of a view, by the payload that its bytes spell
 abbrev pub after_event : ProgramTree → ℕ → Option PlainPayload → Scene → Scene
@@ -253,7 +261,3 @@ entries_behind t = filter (λ e. nat_lt t e.time)
 -- a world that is taken up: the entries behind its time with a time of at most t, and then it advances to t
 abbrev pub replay_on : ProgramTree → WorldRecord → List Entry → ℕ → Scene
 replay_on program w entries t = replay_from program t (entries_behind w.time entries) (take_up w)
-
--- a world follows a log: once it has advanced to its own time it is the replay of the log to that time
-abbrev pub Follows : Founding → WorldRecord → List Entry → Type 0
-Follows founding w entries = (advance founding.tree w.time (take_up w)).world ≡ (replay founding w.id entries w.time).world

@@ -15,8 +15,7 @@ pub use fault::WorldFault;
 pub use laws::{
     advance_rests, advance_steps, advance_twice, at_rest_stays, entry_tells_what_is_heard,
     external_after, external_keeps_valid, first_message_opens, first_world_is_valid, replay_folds,
-    replay_follows, resumed_follows, resumed_world_is_valid, turns_advance, world_crosses_threads,
-    world_decides,
+    replay_rests, resumed_world_is_valid, turns_advance, world_crosses_threads, world_decides,
 };
 pub use told::{HeardEvent, RanMessage};
 pub use world::World;

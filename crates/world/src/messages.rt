@@ -28,7 +28,8 @@ pub fn run(
     call: Call<'_>,
 ) -> Result<(), WantOfMemory>
     ensures { let c = call.entry in
-        OnOk result (scene state.new ≡ after_method (checked_tree program.now) c.object c.method.now (plain_values c.args) (scene state.old)) }
+        OnOk result (scene state.new
+        ≡ after_method (checked_tree program.now) c.object c.method.now (plain_values c.args) (scene state.old)) }
 {
     let mut budget = Budget::new();
     match run_method(alloc, program, call, state, &mut budget) {
@@ -50,7 +51,8 @@ pub fn inform(
     event: &Event<'_>,
 ) -> Result<(), WantOfMemory>
     ensures { let e = event.now in
-        OnOk result (scene state.new ≡ after_telling (checked_tree program.now) e.scope.now e.name.now (notice_of e) (scene state.old)) }
+        OnOk result (scene state.new ≡ after_telling (checked_tree program.now) e.scope.now e.name.now (notice_of e)
+        (scene state.old)) }
 {
     let mut budget = Budget::new();
     match tell_models(alloc, program, event, state, &mut budget) {
@@ -145,7 +147,9 @@ pub fn handle(
     message: Message,
 ) -> Result<(), WantOfMemory>
     ensures { let m = plain_message message in
-        OnOk result (scene state.new ≡ after_method (checked_tree program.now) m.object m.method m.args (scene_with_world (scene state.old) (with_next_turn (at_later_time m.time (scene state.old).world)))) }
+        OnOk result (scene state.new
+        ≡ after_method (checked_tree program.now) m.object m.method m.args
+        (scene_with_world (scene state.old) (with_next_turn (at_later_time m.time (scene state.old).world)))) }
 {
     move_to(state, message.time);
     begin(state);

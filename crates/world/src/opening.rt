@@ -81,7 +81,9 @@ fn make_root(
     fields: usize,
 ) -> Result<(), WantOfMemory>
     requires { fields ≤ most_members }
-    ensures { (root : ClassTree) → length root.fields ≡ fields → OnOk result (scene state.new ≡ scene_with_world (scene state.old) (with_root class root (scene state.old).world)) }
+    ensures { (root : ClassTree) → length root.fields ≡ fields
+        → OnOk result (scene state.new
+        ≡ scene_with_world (scene state.old) (with_root class root (scene state.old).world)) }
 {
     let fields = nils(alloc, fields)?;
     let known = root_name(alloc)?;
@@ -111,7 +113,8 @@ fn initialise(
     state: &mut State,
     class: u16,
 ) -> Result<(), WantOfMemory>
-    ensures { (root : ClassTree) → slice_get (checked_tree program.now) class ≡ Some root → OnOk result (scene state.new ≡ with_root_init (founding_of program.now) root (scene state.old)) }
+    ensures { (root : ClassTree) → slice_get (checked_tree program.now) class ≡ Some root
+        → OnOk result (scene state.new ≡ with_root_init (founding_of program.now) root (scene state.old)) }
 {
     let init = Text::copy(alloc, "init")?;
     let Some(method) = program.method(class, &init) else {
@@ -132,7 +135,7 @@ pub fn first_message(alloc: Global, program: &Checked) -> Result<Option<RanMessa
 {
     let class = program.root();
     // The program itself tells that no two of its classes have one name.
-    let _program = program.program();
+    let _program = program.program(); // for the prover
     let init = Text::copy(alloc, "init")?;
     let Some(method) = program.method(class, &init) else {
         return Ok(None);
@@ -149,7 +152,8 @@ pub fn first_message(alloc: Global, program: &Checked) -> Result<Option<RanMessa
 
 /// What the `init` of the first object starts with: nil, and where it has two parameters the persisted value too.
 fn init_args(alloc: Global, init: &Solved, persisted: &Value) -> Result<Values, WantOfMemory>
-    ensures { IfOk result (λ args. plain_values args ≡ one_or_both (nat_eq init.now.params 2) nil (plain persisted.now)) }
+    ensures { IfOk result (λ args. plain_values args
+        ≡ one_or_both (nat_eq init.now.params 2) nil (plain persisted.now)) }
 {
     if init.params == 2 {
         both(alloc, Value::Nil, copy(alloc, persisted)?)

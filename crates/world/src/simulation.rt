@@ -49,7 +49,8 @@ pub fn external(
     requires program { IsProgram (checked_tree program.now) }
     requires valid { Valid (field_counts (checked_tree program.now)) (world_of state.old) }
     requires time { entry.now.time < time_limit }
-    ensures entered { OnOk result (scene state.new ≡ entered_by (checked_tree program.now) entry.now (scene state.old)) }
+    ensures entered { OnOk result (scene state.new
+        ≡ entered_by (checked_tree program.now) entry.now (scene state.old)) }
     ensures valid { OnOk result (Valid (field_counts (checked_tree program.now)) (world_of state.new)) }
 {
     advance(alloc, program, state, entry.time)?;
@@ -63,7 +64,8 @@ fn enter(
     state: &mut State,
     entry: &Entry,
 ) -> Result<(), WantOfMemory>
-    ensures { OnOk result (scene state.new ≡ after_entry (checked_tree program.now) entry.now.what entry.now.view (scene state.old)) }
+    ensures { OnOk result (scene state.new
+        ≡ after_entry (checked_tree program.now) entry.now.what entry.now.view (scene state.old)) }
 {
     match &entry.what {
         What::Join => come(alloc, program, state, entry.view),
@@ -108,7 +110,8 @@ fn hear(
     view: u32,
     payload: &[u8],
 ) -> Result<(), WantOfMemory>
-    ensures { OnOk result (scene state.new ≡ after_event (checked_tree program.now) view (whole_payload payload.now) (scene state.old)) }
+    ensures { OnOk result (scene state.new
+        ≡ after_event (checked_tree program.now) view (whole_payload payload.now) (scene state.old)) }
 {
     match read_payload(alloc, payload) {
         Ok((scope, name, value)) => {
@@ -136,7 +139,8 @@ fn tell_of(
     name: &Text,
     view: u32,
 ) -> Result<(), WantOfMemory>
-    ensures { OnOk result (scene state.new ≡ after_telling_of (checked_tree program.now) name.now view (scene state.old)) }
+    ensures { OnOk result (scene state.new
+        ≡ after_telling_of (checked_tree program.now) name.now view (scene state.old)) }
 {
     let scope = session_text(alloc, &state.id)?;
     let value = Value::Int(i64::from(view));
@@ -163,6 +167,7 @@ pub fn exit_event(alloc: Global) -> Result<Text, WantOfMemory>
     Text::copy(alloc, "view-exit")
 }
 
+/// Whether a view is among those that are here.
 pub fn is_here(views: &[u32], view: u32) -> bool
     ensures { result ≡ is_view_here view views.now }
 {

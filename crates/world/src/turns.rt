@@ -73,8 +73,11 @@ pub fn enter(
     requires program { IsProgram (checked_tree program.now) }
     requires valid { Valid (field_counts (checked_tree program.now)) (world_of state.old) }
     requires time { entry.now.time < time_limit }
-    ensures entered { OnOk result (scene state.new ≡ entered_by (checked_tree program.now) entry.now (scene state.old)) }
-    ensures told { IfOk result (λ heard. heard ≡ heard_of (advanced (checked_tree program.now) entry.now.time (scene state.old)).world entry.now.view entry.now.what) }
+    ensures entered { OnOk result (scene state.new
+        ≡ entered_by (checked_tree program.now) entry.now (scene state.old)) }
+    ensures told { IfOk result (λ heard. heard
+        ≡ heard_of (advanced (checked_tree program.now) entry.now.time (scene state.old)).world entry.now.view
+        entry.now.what) }
     ensures valid { OnOk result (Valid (field_counts (checked_tree program.now)) (world_of state.new)) }
 {
     advance(alloc, program, state, entry.time)?;

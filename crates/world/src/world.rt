@@ -49,7 +49,11 @@ impl Model for World {
 
     ghost view = { λ w. record { program = arc_value w.program; scene = scene w.state; broken = w.broken } };
 
-    ghost invariant = { λ w. IsSoundWorld (record { program = arc_value w.program; scene = scene w.state; broken = w.broken }) };
+    ghost invariant = { λ w. IsSoundWorld (record {
+      program = arc_value w.program;
+      scene = scene w.state;
+      broken = w.broken;
+    }) };
 }
 
 impl World {
@@ -61,7 +65,11 @@ impl World {
         program: Arc<Checked, Global>,
         id: SessionId,
     ) -> Result<World, WantOfMemory>
-        ensures first { IfOk result (λ w. w ≡ record { program = arc_value program; scene = first_of (founding_of (arc_value program)) id.0; broken = false }) }
+        ensures first { IfOk result (λ w. w ≡ record {
+          program = arc_value program;
+          scene = first_of (founding_of (arc_value program)) id.0;
+          broken = false;
+        }) }
         ensures begins { IfOk result (λ w. w.scene.world.time ≡ 0) }
     {
         let state = opening::first(alloc, &program, id)?;
@@ -81,12 +89,16 @@ impl World {
         plain: &PlainWorld,
     ) -> Result<World, WantOfMemory>
         requires { Valid (field_counts (checked_tree (arc_value program))) (world_record plain.now) }
-        ensures { IfOk result (λ w. w ≡ record { program = arc_value program; scene = take_up (world_record plain.now); broken = false }) }
+        ensures { IfOk result (λ w. w ≡ record {
+          program = arc_value program;
+          scene = take_up (world_record plain.now);
+          broken = false;
+        }) }
     {
         let state = resuming::from_plain(alloc, plain)?;
         // The classes and the persisted value tell what a world wants of its program.
-        let _classes = program.program().classes();
-        let _persisted = program.persisted();
+        let _classes = program.program().classes(); // for the prover
+        let _persisted = program.persisted(); // for the prover
         Ok(World {
             alloc,
             program,
@@ -104,7 +116,8 @@ impl World {
     /// nothing. Want of memory breaks the world.
     pub fn advance(&mut self, time: u64) -> Result<(), WorldFault>
         requires { time < time_limit }
-        ensures moves { MovesOn result self.old self.new (nat_lt time self.old.scene.world.time) (advanced (checked_tree self.old.program) time self.old.scene) }
+        ensures moves { MovesOn result self.old self.new (nat_lt time self.old.scene.world.time)
+            (advanced (checked_tree self.old.program) time self.old.scene) }
         ensures arrives { OnOk result (self.new.scene.world.time ≡ time) }
     {
         if self.broken {
@@ -137,7 +150,8 @@ impl World {
     /// both change nothing. Want of memory breaks the world.
     pub fn external(&mut self, entry: &Entry) -> Result<(), WorldFault>
         requires { entry.now.time < time_limit }
-        ensures moves { MovesOn result self.old self.new (nat_le entry.now.time self.old.scene.world.time) (entered_by (checked_tree self.old.program) entry.now self.old.scene) }
+        ensures moves { MovesOn result self.old self.new (nat_le entry.now.time self.old.scene.world.time)
+            (entered_by (checked_tree self.old.program) entry.now self.old.scene) }
         ensures arrives { OnOk result (self.new.scene.world.time ≡ entry.now.time) }
     {
         if self.broken {
@@ -177,7 +191,8 @@ impl World {
     /// `Broken` exactly where the world is broken, which changes nothing. Want of memory breaks the world. `Back` never comes: a
     /// message is not due before the world's time.
     pub fn turn(&mut self, until: u64) -> Result<Option<RanMessage>, WorldFault>
-        ensures moves { MovesOn (done result) self.old self.new false (after_turn (checked_tree self.old.program) until self.old.scene) }
+        ensures moves { MovesOn (done result) self.old self.new false
+            (after_turn (checked_tree self.old.program) until self.old.scene) }
         ensures told { IfOk result (λ ran. option_map plain_ran ran ≡ next_ran until self.old.scene.world) }
         ensures sound { IsSoundWorld self.new }
     {
@@ -203,9 +218,12 @@ impl World {
     /// change nothing. Want of memory breaks the world.
     pub fn enter(&mut self, entry: &Entry) -> Result<Option<HeardEvent>, WorldFault>
         requires { entry.now.time < time_limit }
-        ensures moves { MovesOn (done result) self.old self.new (nat_lt entry.now.time self.old.scene.world.time) (entered_by (checked_tree self.old.program) entry.now self.old.scene) }
+        ensures moves { MovesOn (done result) self.old self.new (nat_lt entry.now.time self.old.scene.world.time)
+            (entered_by (checked_tree self.old.program) entry.now self.old.scene) }
         ensures arrives { OnOk result (self.new.scene.world.time ≡ entry.now.time) }
-        ensures told { IfOk result (λ heard. heard ≡ heard_of (advanced (checked_tree self.old.program) entry.now.time self.old.scene).world entry.now.view entry.now.what) }
+        ensures told { IfOk result (λ heard. heard
+            ≡ heard_of (advanced (checked_tree self.old.program) entry.now.time self.old.scene).world entry.now.view
+            entry.now.what) }
     {
         if self.broken {
             return Err(WorldFault::Broken);
@@ -232,7 +250,8 @@ impl World {
     /// `Broken` exactly where the world is broken. Want of memory changes nothing.
     pub fn to_plain(&self) -> Result<PlainWorld, WorldFault>
         ensures copy { Copies result self.now }
-        ensures valid { IfOk result (λ plain. Valid (field_counts (checked_tree self.now.program)) (world_record plain)) }
+        ensures valid { IfOk result (λ plain.
+            Valid (field_counts (checked_tree self.now.program)) (world_record plain)) }
     {
         if self.broken {
             return Err(WorldFault::Broken);

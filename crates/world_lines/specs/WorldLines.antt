@@ -28,7 +28,8 @@ is_reserved bytes = is_some (word_among every_word bytes)
 -- have, and not a reserved word
 abbrev pub is_name : List ℕ → Bool
 is_name [] = false
-is_name (first ∷ rest) = begins_name first && (list_all goes_on_name rest && (nat_lt (length rest) longest_name && not (is_reserved (first ∷ rest))))
+is_name (first ∷ rest) = begins_name first
+    && (list_all goes_on_name rest && (nat_lt (length rest) longest_name && not (is_reserved (first ∷ rest))))
 
 -- the name of a method as it is; what is no name as its literal
 abbrev pub method_text : Name → LineWord
@@ -38,7 +39,8 @@ method_text method = if is_name (encode_utf8_all method) then encode_utf8_all me
 
 -- each field by its name and its value
 abbrev pub fields_part : List Name → List PlainValue → List ℕ
-fields_part (name ∷ names) (value ∷ values) = spaced (encode_utf8_all name) ++ spaced (value_text value) ++ fields_part names values
+fields_part (name ∷ names) (value ∷ values) =
+    spaced (encode_utf8_all name) ++ spaced (value_text value) ++ fields_part names values
 fields_part names values = []
 
 -- a class by its name, with these values of its fields; in a valid world each object has a class
@@ -48,12 +50,14 @@ class_part (Some class) values = spaced (encode_utf8_all class.name) ++ fields_p
 
 -- `object ID CLASS`, and ` FIELD VALUE` for each field
 abbrev pub object_line : ProgramTree → ObjectRecord → List ℕ
-object_line program object = spell_numbers (codes "object") (object.id ∷ []) ++ class_part (slice_get program object.class) object.fields ++ codes "\n"
+object_line program object = spell_numbers (codes "object") (object.id ∷ [])
+    ++ class_part (slice_get program object.class) object.fields ++ codes "\n"
 
 -- `topic SCOPE EVENT OBJECT METHOD`
 abbrev pub topic_line : Subscription → List ℕ
 topic_line topic =
-    codes "topic" ++ spaced (spelled_text topic.scope) ++ spaced (spelled_text topic.event) ++ spaced (decimal topic.object) ++ spaced (method_text topic.method)
+    codes "topic" ++ spaced (spelled_text topic.scope) ++ spaced (spelled_text topic.event)
+    ++ spaced (decimal topic.object) ++ spaced (method_text topic.method)
     ++ codes "\n"
 
 -- the arguments of a message, as the value text of their list
@@ -63,7 +67,8 @@ arguments_text args = value_text (list (plains_of args))
 -- `pending TIME NUMBER OBJECT METHOD ARGS`
 abbrev pub pending_line : PlainMessage → List ℕ
 pending_line message =
-    spell_numbers (codes "pending") (message.time ∷ message.number ∷ message.object ∷ []) ++ spaced (method_text message.method) ++ spaced (arguments_text message.args)
+    spell_numbers (codes "pending") (message.time ∷ message.number ∷ message.object ∷ [])
+    ++ spaced (method_text message.method) ++ spaced (arguments_text message.args)
     ++ codes "\n"
 
 -- ---- faults
@@ -71,7 +76,8 @@ pending_line message =
 -- the kinds of faults by name, in the order in which a world counts them
 abbrev pub fault_words : List LineWord
 fault_words =
-    codes "overflow" ∷ codes "zero-divisor" ∷ codes "bad-kind" ∷ codes "bad-index" ∷ codes "no-object" ∷ codes "no-method" ∷ codes "arity" ∷ codes "fuel" ∷ codes "depth"
+    codes "overflow" ∷ codes "zero-divisor" ∷ codes "bad-kind" ∷ codes "bad-index" ∷ codes "no-object"
+    ∷ codes "no-method" ∷ codes "arity" ∷ codes "fuel" ∷ codes "depth"
     ∷ codes "size" ∷ codes "instant" ∷ codes "time" ∷ codes "full" ∷ codes "bad-event" ∷ []
 
 -- `fault KIND COUNT`, if it is counted at all
@@ -87,4 +93,5 @@ fault_parts kinds counts = []
 
 -- objects by rising id, subscriptions in the order in which they were made, messages in the order in which they are due, and faults
 abbrev pub world_lines : ProgramTree → WorldRecord → List ℕ
-world_lines program w = flat_map (object_line program) w.objects ++ flat_map topic_line w.subscriptions ++ flat_map pending_line w.pending ++ fault_parts fault_words w.faults
+world_lines program w = flat_map (object_line program) w.objects ++ flat_map topic_line w.subscriptions
+    ++ flat_map pending_line w.pending ++ fault_parts fault_words w.faults

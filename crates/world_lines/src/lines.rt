@@ -19,7 +19,8 @@ use world_plain::{Message, PlainObject, PlainWorld, Subscription};
 
 /// Appends fields, each by its name and its value.
 fn push_fields(line: &mut String, names: &[Text], values: &[Value]) -> Result<(), WantOfMemory>
-    ensures { OnOk result (string_bytes line.new ≡ string_bytes line.old ++ fields_part names.now (plain_values values.now)) }
+    ensures { OnOk result (string_bytes line.new
+        ≡ string_bytes line.old ++ fields_part names.now (plain_values values.now)) }
 {
     for i in 0..names.len().min(values.len()) {
         push_word(line, names[i].as_str())?;
@@ -35,7 +36,8 @@ fn push_class(
     object: &PlainObject,
 ) -> Result<(), WantOfMemory>
     ensures { let o = object_record object.now in
-        OnOk result (string_bytes line.new ≡ string_bytes line.old ++ class_part (slice_get (program_tree classes.now) o.class) o.fields) }
+        OnOk result (string_bytes line.new
+        ≡ string_bytes line.old ++ class_part (slice_get (program_tree classes.now) o.class) o.fields) }
 {
     let Some(class) = classes.get(usize::from(object.class)) else {
         return Ok(());
@@ -50,7 +52,8 @@ fn object_line(
     classes: &[Class],
     object: &PlainObject,
 ) -> Result<String, WantOfMemory>
-    ensures { IfOk result (λ line. string_bytes line ≡ object_line (program_tree classes.now) (object_record object.now)) }
+    ensures { IfOk result (λ line. string_bytes line
+        ≡ object_line (program_tree classes.now) (object_record object.now)) }
 {
     let mut line = spell_numbers(alloc, "object", &[u64::from(object.id)])?;
     push_class(&mut line, classes, object)?;
@@ -64,7 +67,8 @@ fn object_lines(
     classes: &[Class],
     objects: &[PlainObject],
 ) -> Result<String, WantOfMemory>
-    ensures { IfOk result (λ text. string_bytes text ≡ flat_map (object_line (program_tree classes.now)) (map object_record objects.now)) }
+    ensures { IfOk result (λ text. string_bytes text
+        ≡ flat_map (object_line (program_tree classes.now)) (map object_record objects.now)) }
 {
     let mut text = String::new(alloc);
     for object in objects {
@@ -130,7 +134,8 @@ pub fn world_lines(
     classes: &[Class],
     world: &PlainWorld,
 ) -> Result<String, WantOfMemory>
-    ensures { IfOk result (λ text. string_bytes text ≡ world_lines (program_tree classes.now) (world_record world.now)) }
+    ensures { IfOk result (λ text. string_bytes text
+        ≡ world_lines (program_tree classes.now) (world_record world.now)) }
 {
     let mut text = object_lines(alloc, classes, world.objects.as_slice())?;
     let topics = topic_lines(alloc, world.subscriptions.as_slice())?;

@@ -72,7 +72,8 @@ fn push_items(line: &mut String, items: &[Value]) -> Result<(), WantOfMemory>
 
 /// Appends the value text of the list of arguments.
 pub fn push_arguments(line: &mut String, args: &Values) -> Result<(), WantOfMemory>
-    ensures { OnOk result (string_bytes line.new ≡ string_bytes line.old ++ spaced (arguments_text (plain_values args.now))) }
+    ensures { OnOk result (string_bytes line.new
+        ≡ string_bytes line.old ++ spaced (arguments_text (plain_values args.now))) }
 {
     line.push_str(" [")?;
     push_items(line, args.as_slice())?;

@@ -23,7 +23,13 @@ pub record PlainOutgoing : Type 0 where
 
 abbrev pub plain_message : Message → PlainMessage
 plain_message message =
-    record { time = message.time; number = message.number; object = message.object; method = message.method; args = plain_values message.args }
+    record {
+      time = message.time;
+      number = message.number;
+      object = message.object;
+      method = message.method;
+      args = plain_values message.args;
+    }
 
 abbrev pub plain_outgoing : Outgoing → PlainOutgoing
 plain_outgoing outgoing =

@@ -134,7 +134,8 @@ NumbersDiffer = EachBefore (λ m n. ¬ (m.number ≡ n.number))
 -- a message that is still to come, by the world's time, the number that the next message gets and the objects
 abbrev pub MessageFits : ℕ → ℕ → List ObjectRecord → PlainMessage → Type 0
 MessageFits time next objects m =
-    (time ≤ m.time) × (m.time < time_limit) × (m.number < next) × IsHeld objects m.object × TextFits m.method × (length m.args ≤ most_arguments) × AllInBounds m.args
+    (time ≤ m.time) × (m.time < time_limit) × (m.number < next) × IsHeld objects m.object × TextFits m.method
+    × (length m.args ≤ most_arguments) × AllInBounds m.args
 
 abbrev pub MessagesFit : ℕ → ℕ → List ObjectRecord → List PlainMessage → Type 0
 MessagesFit time next objects = AllByRecursion (MessageFits time next objects)

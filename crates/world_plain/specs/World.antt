@@ -71,7 +71,8 @@ total_weight weighs (x ∷ xs) = weighs x + total_weight weighs xs
 
 abbrev pub world_weight : WorldRecord → ℕ
 world_weight w =
-    total_weight object_weight w.objects + total_weight message_weight w.pending + total_weight subscription_weight w.subscriptions + total_weight known_weight w.known
+    total_weight object_weight w.objects + total_weight message_weight w.pending
+    + total_weight subscription_weight w.subscriptions + total_weight known_weight w.known
     + saved_weight w.saved
 
 abbrev pub most_world_weight : ℕ

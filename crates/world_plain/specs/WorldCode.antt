@@ -50,7 +50,10 @@ abbrev pub coded_rows : Coded Rows
 coded_rows =
     coded×
     (coded_list coded_ℕ)
-    (coded× (coded_list coded_ℕ) (coded× (coded_list coded_object) (coded× (coded_list coded_known) (coded× (coded_list coded_subscription) (coded× (coded_list coded_message) coded_plain)))))
+    (coded× (coded_list coded_ℕ)
+    (coded× (coded_list coded_object)
+    (coded× (coded_list coded_known)
+    (coded× (coded_list coded_subscription) (coded× (coded_list coded_message) coded_plain)))))
 
 -- the world of its parts, in the order of its spelling
 abbrev pub world_of_parts : List ℕ × (Singles × Rows) → WorldRecord
@@ -75,6 +78,12 @@ coded_world =
     code_by
     (List ℕ × (Singles × Rows))
     (coded× (coded_list coded_ℕ) (coded× coded_singles coded_rows))
-    (λ w. (w.id, ((w.time, (w.next_object, (w.next_number, (w.random, w.turns)))), (w.faults, (w.views, (w.objects, (w.known, (w.subscriptions, (w.pending, w.saved)))))))))
+    (λ w. (
+      w.id,
+      (
+        (w.time, (w.next_object, (w.next_number, (w.random, w.turns)))),
+        (w.faults, (w.views, (w.objects, (w.known, (w.subscriptions, (w.pending, w.saved)))))),
+      ),
+    ))
     world_of_parts
     (λ _. refl)

@@ -55,7 +55,8 @@ fn number_at(messages: &[Message], place: u16) -> Option<u64>
 /// Whether each message is one that is still to come in the world, for an object that is held.
 pub fn messages_fit(world: &PlainWorld, messages: &[Message]) -> bool
     requires { HaveRisingIds (map object_record world.now.objects) }
-    ensures { IsTrue result ↔ MessagesFit world.now.time world.now.next_number (map object_record world.now.objects) (map plain_message messages.now) }
+    ensures { IsTrue result ↔ MessagesFit world.now.time world.now.next_number (map object_record world.now.objects)
+        (map plain_message messages.now) }
 {
     for message in messages {
         if !is_valid_message(world, message) {
@@ -67,7 +68,8 @@ pub fn messages_fit(world: &PlainWorld, messages: &[Message]) -> bool
 
 fn is_valid_message(world: &PlainWorld, message: &Message) -> bool
     requires { HaveRisingIds (map object_record world.now.objects) }
-    ensures { IsTrue result ↔ MessageFits world.now.time world.now.next_number (map object_record world.now.objects) (plain_message message.now) }
+    ensures { IsTrue result ↔ MessageFits world.now.time world.now.next_number (map object_record world.now.objects)
+        (plain_message message.now) }
 {
     world.time <= message.time
         && message.time < TIME_LIMIT

@@ -58,7 +58,8 @@ fn has_valid_parts(world: &PlainWorld, counts: &[u32]) -> bool
 /// Whether there are no more views, objects, subscriptions and pending messages than there may be.
 fn has_few_parts(world: &PlainWorld) -> bool
     ensures { let w = world_record world.now in
-        IsTrue result ↔ ((length w.views ≤ most_here) × (length w.objects ≤ most_objects) × (length w.subscriptions ≤ most_subscriptions) × (length w.pending ≤ most_messages)) }
+        IsTrue result ↔ ((length w.views ≤ most_here) × (length w.objects ≤ most_objects)
+        × (length w.subscriptions ≤ most_subscriptions) × (length w.pending ≤ most_messages)) }
 {
     world.views.len() <= MOST_VIEWS
         && world.objects.len() <= MOST_OBJECTS
@@ -103,7 +104,8 @@ fn has_fit_objects(world: &PlainWorld, counts: &[u32]) -> bool
 
 fn has_fit_names(world: &PlainWorld) -> bool
     requires { HaveRisingIds (map object_record world.now.objects) }
-    ensures { IsTrue result ↔ (KnownRise world.now.known × KnownFit (map object_record world.now.objects) world.now.known) }
+    ensures { IsTrue result ↔ (KnownRise world.now.known
+        × KnownFit (map object_record world.now.objects) world.now.known) }
 {
     let known = world.known.as_slice();
     names_rise(known) && names_fit(known, world.objects.as_slice())
@@ -119,7 +121,8 @@ fn has_fit_subscriptions(world: &PlainWorld) -> bool
 fn has_fit_messages(world: &PlainWorld) -> bool
     requires { HaveRisingIds (map object_record world.now.objects) }
     ensures { let messages = map plain_message world.now.pending in
-        IsTrue result ↔ (AreInOrder messages × MessagesFit world.now.time world.now.next_number (map object_record world.now.objects) messages) }
+        IsTrue result ↔ (AreInOrder messages
+        × MessagesFit world.now.time world.now.next_number (map object_record world.now.objects) messages) }
 {
     let messages = world.pending.as_slice();
     are_in_order(messages) && messages_fit(world, messages)

@@ -36,7 +36,11 @@ world_of s = record {
 
 -- what a contract sees of what runs
 abbrev pub running : State → Budget → Running
-running state budget = record { fuel = budget.fuel; world = world_of state; published = map plain_outgoing state.published }
+running state budget = record {
+  fuel = budget.fuel;
+  world = world_of state;
+  published = map plain_outgoing state.published;
+}
 
 -- a fault of what needs no world
 abbrev pub stop_of : BuiltinStop → EvalStop

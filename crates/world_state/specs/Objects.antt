@@ -31,7 +31,8 @@ get_named (Some o) x names r = Gives (value_named x names o.fields) r
 -- the objects with other fields in the one of this number
 abbrev pub with_fields : ℕ → (List PlainValue → List PlainValue) → List ObjectRecord → List ObjectRecord
 with_fields id change [] = []
-with_fields id change (o ∷ os) = if nat_eq o.id id then record o { fields = change o.fields } ∷ os else o ∷ with_fields id change os
+with_fields id change (o ∷ os) =
+    if nat_eq o.id id then record o { fields = change o.fields } ∷ os else o ∷ with_fields id change os
 
 abbrev pub with_objects : Running → List ObjectRecord → Running
 with_objects r objects = with_world r (record (r.world) { objects = objects })
@@ -65,7 +66,8 @@ abbrev pub new_object : ℕ → ℕ → WorldRecord → ObjectRecord
 new_object class fields w = record { id = w.next_object; class = class; fields = replicate fields nil }
 
 abbrev pub has_room_for : WorldRecord → ObjectRecord → Bool
-has_room_for w o = nat_lt (length w.objects) most_objects && nat_lt w.next_object last_object_id && nat_le (world_weight w + object_weight o) most_world_weight
+has_room_for w o = nat_lt (length w.objects) most_objects && nat_lt w.next_object last_object_id
+    && nat_le (world_weight w + object_weight o) most_world_weight
 
 abbrev pub with_object : WorldRecord → ObjectRecord → WorldRecord
 with_object w o = record w { objects = w.objects ++ o ∷ []; next_object = w.next_object + 1 }
@@ -102,7 +104,8 @@ known_by x (k ∷ ks) = if bytes_eq x k.name then ref k.object else known_by x k
 
 abbrev pub make_known : ℕ → Name → Running → Outcome PlainValue
 make_known object x r =
-    if is_held object r.world then if_light nil r (with_world r (record (r.world) { known = with_known x object r.world.known }))
+    if is_held object r.world then if_light nil r
+    (with_world r (record (r.world) { known = with_known x object r.world.known }))
     else Faults NoObject r
 
 -- ---- the saved value
@@ -110,4 +113,5 @@ make_known object x r =
 -- a value that can be saved becomes the saved one, in place of any other, if the world stays light; a value of a program is in bounds, so one
 -- that cannot be saved holds an object
 abbrev pub persist : PlainValue → Running → Outcome PlainValue
-persist v r = if can_be_saved v then if_light nil r (with_world r (record (r.world) { saved = v })) else Faults BadKind r
+persist v r = if can_be_saved v then if_light nil r (with_world r (record (r.world) { saved = v }))
+    else Faults BadKind r

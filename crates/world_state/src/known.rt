@@ -28,7 +28,8 @@ pub fn known_object(known: &Names, name: &Text) -> Value
 /// Makes an object known by a name, in place of any other. Gives the fault NoObject where the object is gone, and Full, with
 /// the world as it was, where the world would become too heavy.
 pub fn be_known(name: &Text, object: u32, state: &mut State) -> Result<Value, EvalStop>
-    ensures { (budget : Budget) → Answers result state.new budget (make_known object name.now (running state.old budget)) }
+    ensures { (budget : Budget) → Answers result state.new budget
+        (make_known object name.now (running state.old budget)) }
 {
     if !is_held(state, object) {
         return Err(EvalStop::Fault(Fault::NoObject));
@@ -44,10 +45,11 @@ pub fn be_known(name: &Text, object: u32, state: &mut State) -> Result<Value, Ev
     Ok(Value::Nil)
 }
 
-// Whether the world is light enough with an object known by a name, whichever that is and whoever is known by it now.
+/// Whether the world is light enough with an object known by a name, whichever that is and whoever is known by it now.
 fn has_room_for_name(state: &State, name: &Text) -> bool
     ensures { (object : ℕ) →
-        result ≡ nat_le (world_weight (record (world_of state.now) { known = with_known name.now object state.now.known })) most_world_weight }
+        result ≡ nat_le (world_weight
+        (record (world_of state.now) { known = with_known name.now object state.now.known })) most_world_weight }
 {
     let added = state.known.added_weight(name);
     match state.room() {

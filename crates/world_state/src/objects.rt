@@ -41,7 +41,8 @@ fn absent(state: &State, object: u32) -> Result<Value, EvalStop>
 /// Puts a value into an object's field. Gives the fault NoObject where the object is gone, and Full, with the world as
 /// it was, where the world would become too heavy.
 pub fn set_slot(state: &mut State, object: u32, slot: u32, value: Value) -> Result<(), EvalStop>
-    ensures { (budget : Budget) → Did result state.new budget (slot_set object slot (plain value) (running state.old budget)) }
+    ensures { (budget : Budget) → Did result state.new budget
+        (slot_set object slot (plain value) (running state.old budget)) }
 {
     match state.objects.field(object, slot) {
         None => keep_fields(state, object),
@@ -55,7 +56,7 @@ pub fn set_slot(state: &mut State, object: u32, slot: u32, value: Value) -> Resu
     }
 }
 
-// An object keeps the fields that it has: a field that is not there holds nothing.
+/// An object keeps the fields that it has: a field that is not there holds nothing.
 fn keep_fields(state: &State, object: u32) -> Result<(), EvalStop>
     ensures { (budget : Budget) → let r = running state.now budget in
         Did result state.now budget (put_fields (object_at r.world.objects object) object (λ fields. fields) r) }
@@ -69,10 +70,11 @@ fn keep_fields(state: &State, object: u32) -> Result<(), EvalStop>
     Ok(())
 }
 
-// Whether the world is light enough with a value in the place of another.
+/// Whether the world is light enough with a value in the place of another.
 fn has_room_in_place(state: &State, held: &Value, value: &Value) -> bool
     requires light { weight_of (plain held.now) ≤ most_world_weight }
-    ensures { result ≡ nat_le (world_weight (world_of state.now) + weight_of (plain value.now)) (most_world_weight + weight_of (plain held.now)) }
+    ensures { result ≡ nat_le (world_weight (world_of state.now) + weight_of (plain value.now))
+        (most_world_weight + weight_of (plain held.now)) }
 {
     match (held, value) {
         // They weigh the same.
@@ -83,7 +85,8 @@ fn has_room_in_place(state: &State, held: &Value, value: &Value) -> bool
 
 fn fits_in_place(state: &State, held: &Value, value: &Value) -> bool
     requires light { weight_of (plain held.now) ≤ most_world_weight }
-    ensures { result ≡ nat_le (world_weight (world_of state.now) + weight_of (plain value.now)) (most_world_weight + weight_of (plain held.now)) }
+    ensures { result ≡ nat_le (world_weight (world_of state.now) + weight_of (plain value.now))
+        (most_world_weight + weight_of (plain held.now)) }
 {
     match state.room_behind(MOST_WORLD_WEIGHT + weight(held)) {
         None => false,
@@ -101,7 +104,8 @@ pub fn is_held(state: &State, id: u32) -> bool
 /// Makes an object of a class, with so many fields, all nil, and answers its id. Gives the fault Full, with the world as it was,
 /// where 4,096 objects are held, ids are spent, or the world would become too heavy.
 pub fn make(alloc: Global, state: &mut State, class: u16, fields: u32) -> Result<u32, EvalStop>
-    ensures { (budget : Budget) → Numbers result state.new budget (make_object class fields (running state.old budget)) }
+    ensures { (budget : Budget) → Numbers result state.new budget
+        (make_object class fields (running state.old budget)) }
 {
     let fields = nils(alloc, fields as usize)?;
     if !has_room(state, &fields) {
@@ -110,9 +114,10 @@ pub fn make(alloc: Global, state: &mut State, class: u16, fields: u32) -> Result
     Ok(state.objects.create(class, fields)?)
 }
 
-// Whether the world is light enough with one more object.
+/// Whether the world is light enough with one more object.
 fn has_room(state: &State, fields: &Values) -> bool
-    ensures { result ≡ nat_le (world_weight (world_of state.now) + (2 + values_weight (plain_values fields.now))) most_world_weight }
+    ensures { result ≡ nat_le (world_weight (world_of state.now) + (2 + values_weight (plain_values fields.now)))
+        most_world_weight }
 {
     match state.room() {
         None => false,
@@ -133,7 +138,8 @@ pub fn destroy(state: &mut State, id: u32) -> Result<Value, EvalStop>
 }
 
 fn take_away(state: &mut State, id: u32)
-    ensures { (budget : Budget) → running state.new budget ≡ with_world (running state.old budget) (without_object id (world_of state.old)) }
+    ensures { (budget : Budget) → running state.new budget
+        ≡ with_world (running state.old budget) (without_object id (world_of state.old)) }
 {
     state.objects.destroy(id);
     state.topics.drop_object(id);

@@ -16,7 +16,8 @@ use world_plain::MOST_WORLD_WEIGHT;
 /// Saves a value for a later session, in place of the one that is saved. Gives a fault, and leaves the world as it was:
 /// BadKind where the value cannot be saved, and Full where the world would become too heavy.
 pub fn persist(alloc: Global, state: &mut State, value: &Value) -> Result<Value, EvalStop>
-    ensures { (budget : Budget) → Answers result state.new budget (persist (plain value.now) (running state.old budget)) }
+    ensures { (budget : Budget) → Answers result state.new budget
+        (persist (plain value.now) (running state.old budget)) }
 {
     if !can_be_saved(value) {
         return Err(EvalStop::Fault(Fault::BadKind));
@@ -29,7 +30,7 @@ pub fn persist(alloc: Global, state: &mut State, value: &Value) -> Result<Value,
     Ok(Value::Nil)
 }
 
-// Whether the world is light enough with a saved value in place of the one that it has.
+/// Whether the world is light enough with a saved value in place of the one that it has.
 fn has_room_to_save(state: &State, new: &Saved) -> bool
     ensures { result ≡ nat_le (world_weight (record (world_of state.now) { saved = new.now })) most_world_weight }
 {

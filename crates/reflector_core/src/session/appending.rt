@@ -73,7 +73,8 @@ impl Session {
     ) -> Result<(u32, u64), CallFault>
         requires follows { MayFollow self.old.plain.log
             (next_entry self.old.plain.log (stamp self.old.plain.horizon now) view (lent_what what)) }
-        requires sound { IsSoundSession (append_entry self.old.plain (stamp self.old.plain.horizon now) view (lent_what what)) }
+        requires sound { IsSoundSession
+            (append_entry self.old.plain (stamp self.old.plain.horizon now) view (lent_what what)) }
         ensures ok { IfOk result (λ place. place ≡ (length self.old.plain.log + 1, stamp self.old.plain.horizon now)) }
         ensures appended { OnOk result (self.new.plain ≡
             append_entry self.old.plain (stamp self.old.plain.horizon now) view (lent_what what.entry)) }

@@ -38,12 +38,14 @@ impl Session {
         sent: Sent<'_>,
     ) -> Result<Reply, CallFault>
         ensures ok { IfOk result (λ reply. with_reply self.new.plain reply ≡
-            send_event self.old.plain sent.entry.view sent.entry.joined sent.entry.number sent.entry.payload.now sent.entry.now) }
+            send_event self.old.plain sent.entry.view sent.entry.joined sent.entry.number sent.entry.payload.now
+            sent.entry.now) }
         ensures prepared { 0 < self.old.ready_entries → length sent.entry.payload.now ≤ self.old.ready_bytes →
             FoundMemory result }
         ensures used { UsesAtMost self.old self.new 1 (length sent.entry.payload.now) }
         ensures err { OnErr result (self.new.plain ≡ self.old.plain) }
-        ensures cause { HasCause (send_event self.old.plain sent.entry.view sent.entry.joined sent.entry.number sent.entry.payload.now sent.entry.now).reply
+        ensures cause { HasCause (send_event self.old.plain sent.entry.view sent.entry.joined sent.entry.number
+            sent.entry.payload.now sent.entry.now).reply
             (K.shut keeper.new) result }
         ensures pace { KeepsPace K.holds K.writes K.settled K.shut K.faults keeper.old keeper.new
             self.old.plain self.new.plain }
@@ -141,10 +143,8 @@ impl Session {
             self.old.plain self.new.plain }
     {
         // opens the session, whose invariant tells that it is sound
-        let _ = &self.horizon;
-        match self.append(keeper, view, LentWhat::Event { number, payload }, now) {
-            Err(fault) => Err(fault),
-            Ok((seq, time)) => Ok(Reply::Stamped { seq, time }),
-        }
+        let _ = &self.horizon; // for the prover
+        let (seq, time) = self.append(keeper, view, LentWhat::Event { number, payload }, now)?;
+        Ok(Reply::Stamped { seq, time })
     }
 }

@@ -88,7 +88,7 @@ fn stand_after(log: &Log, view: u32, stand: Stand, seq: u32) -> Stand
     ensures { result ≡ stand_of (take seq log.now.entries) view }
 {
     // tells that the log is legal
-    let _len = log.len();
+    let _len = log.len(); // for the prover
     let kind = noted_kind(log.kind_of(seq));
     let at = log.view_of(seq);
     after_one(stand, at == view, seq, kind)

@@ -109,20 +109,18 @@ impl Session {
             self.old.plain self.new.plain }
     {
         // opens the session, whose invariant tells that it is sound
-        let _ = &self.horizon;
+        let _ = &self.horizon; // for the prover
         let base = self.base_for(want)?;
         let from = self.from_for(want);
         let last = self.last_number(view);
-        match self.append(keeper, view, LentWhat::Join, now) {
-            Err(fault) => Err(fault),
-            Ok((seq, time)) => Ok(Reply::Joined {
-                seq,
-                time,
-                last,
-                from,
-                base,
-            }),
-        }
+        let (seq, time) = self.append(keeper, view, LentWhat::Join, now)?;
+        Ok(Reply::Joined {
+            seq,
+            time,
+            last,
+            from,
+            base,
+        })
     }
 
     /// Answers a Leave. A view that is here can always leave: its Exit has room in the log, and
@@ -147,10 +145,8 @@ impl Session {
             return Ok(Reply::Refused(self.stale(view)));
         }
         // opens the session, whose invariant tells that it is sound
-        let _ = &self.horizon;
-        match self.append(keeper, view, LentWhat::Exit, now) {
-            Err(fault) => Err(fault),
-            Ok((seq, time)) => Ok(Reply::Left { seq, time }),
-        }
+        let _ = &self.horizon; // for the prover
+        let (seq, time) = self.append(keeper, view, LentWhat::Exit, now)?;
+        Ok(Reply::Left { seq, time })
     }
 }

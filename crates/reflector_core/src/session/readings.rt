@@ -33,7 +33,7 @@ impl Session {
         ensures bound { result ≤ most_entries }
     {
         // `len` is called for its clause that the log has at most so many entries.
-        let _len = self.log.len();
+        let _len = self.log.len(); // for the prover
         self.resend.last(view)
     }
 

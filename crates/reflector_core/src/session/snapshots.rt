@@ -102,10 +102,10 @@ impl Session {
         match want {
             Want::Fresh => match &self.kept {
                 None => 0,
-                Some(base) => self.log.after_time(base.time),
+                Some(base) => self.log.count_until(base.time),
             },
             Want::Whole => 0,
-            Want::After(time) => self.log.after_time(time),
+            Want::After(time) => self.log.count_until(time),
         }
     }
 

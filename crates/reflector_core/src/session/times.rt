@@ -25,7 +25,8 @@ impl Session {
         ensures used { UsesAtMost self.old self.new 0 0 }
         ensures err { OnErr result (self.new.plain ≡ self.old.plain) }
         ensures cause { HasCause (tick self.old.plain now).reply (K.shut keeper.new) result }
-        ensures pace { KeepsPace K.holds K.writes K.settled K.shut K.faults keeper.old keeper.new self.old.plain self.new.plain }
+        ensures pace { KeepsPace K.holds K.writes K.settled K.shut K.faults keeper.old keeper.new self.old.plain
+            self.new.plain }
     {
         let time = self.horizon.max(now.min(END_OF_TIME));
         match keeper.keep_tick(time) {

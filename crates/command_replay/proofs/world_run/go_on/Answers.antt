@@ -8,8 +8,8 @@ use Rattle.command_replay.proofs.world_run.go_on.Goals.{then-time_of-time+in_ok-
 
 pub loop-place-init : goal.loop-place-init
 loop-place-init c =
-    starts_on c.args.time c.args.log.now.entries c.after_time-place.result c.args.world.now
-    (c.after_time-place.ensures ∙ ap (count_until c.args.log.now.entries) c.time.ensures.time) c.len-place-end.ensures.legal c.requires.whole c.requires.early
+    starts_on c.args.time c.args.log.now.entries c.count_until-place.result c.args.world.now
+    (c.count_until-place.ensures ∙ ap (count_until c.args.log.now.entries) c.time.ensures.time) c.len-place-end.ensures.legal c.requires.whole c.requires.early
 
 pub handle-requires-clause-later : goal.handle-requires-clause-later
 handle-requires-clause-later c =

@@ -9,4 +9,4 @@ use Rattle.connection.proofs.opening.first_frame.Given as goal
 abbrev pub invariant-loop-quiets : goal.invariant-loop-quiets
 invariant-loop-quiets g l =
     (pass : PassState) → TalksOn (IsMadeSo (g.C.Clock.gives l.service.clock.now) (SomeShut g.K.Keeper.shut)) l.service.id (Opening 0) (opening_row l._quiets)
-    (account pass (link_account g.L.Link.heard g.L.Link.sent g.L.Link.counts l.initial.link)) (account pass (link_account g.L.Link.heard g.L.Link.sent g.L.Link.counts l.link))
+    (account pass (link_account g.L.Link l.initial.link)) (account pass (link_account g.L.Link l.link))

@@ -2,6 +2,7 @@ use Rattle.std.proofs.Common.{ap, refl, sym, ◌∙◌}
 use Rattle.join_sync.specs.Answers.{first_cursor}
 use Rattle.connection.specs.Phases.{Joining, Over}
 use Rattle.connection.proofs.Callers.{join_fits, joined_so, reply_fits_at}
+use Rattle.connection.proofs.Fitting.{join_fits_at}
 use Rattle.connection.proofs.Talking.{asks_join, asks_nothing}
 use Rattle.connection.proofs.opening.join.Goals as goal
 
@@ -13,6 +14,11 @@ pub opened-cursor-requires : goal.opened-cursor-requires
 opened-cursor-requires g c =
     let told = c.in-Ok.ensures.reply in
     join_fits c.args.request.now c.in-Ok.reply c.requires.join (reply_fits_at _ told.0 _ c.args.request.now c.in-Ok.reply told.1)
+
+pub greet-requires : goal.greet-requires
+greet-requires g c =
+    let told = c.in-Ok.ensures.reply in
+    join_fits_at _ told.0 _ c.args.request.now c.in-Ok.reply c.opened-cursor.result.1 c.requires.join told.1 c.opened-cursor.ensures.answer
 
 pub returns-clause-standing : goal.returns-clause-standing
 returns-clause-standing g c =

@@ -11,4 +11,4 @@ abbrev pub invariant-loop-frame : goal.invariant-loop-frame
 invariant-loop-frame g l =
     (pass : PassState) (next : TalkPhase) → TalksOn (IsMadeSo (g.C.Clock.gives l.service.clock.now) (SomeShut g.K.Keeper.shut)) l.service.id
     (telling_phase l.cursor l.frames next) (telling_phase l.cursor (drop l.frame-index l.frames) next)
-    (account pass (link_account g.L.Link.heard g.L.Link.sent g.L.Link.counts l.fn.link)) (account pass (link_account g.L.Link.heard g.L.Link.sent g.L.Link.counts l.link))
+    (account pass (link_account g.L.Link l.fn.link)) (account pass (link_account g.L.Link l.link))

@@ -1,6 +1,7 @@
 use Rattle.std.proofs.Common.{[], ◌∷◌, refl, ap, sym, ◌∙◌}
 use Rattle.join_sync.proofs.Replies.{request_fits}
 use Rattle.connection.specs.Phases.{Asking, Taking, Ticking, acted_phase, read_phase, telling_phase}
+use Rattle.connection.proofs.Fitting.{act_fits}
 use Rattle.connection.proofs.Talking.{act_timely, reads_either}
 use Rattle.connection.proofs.turns.act.Goals as goal
 
@@ -9,6 +10,9 @@ make-requires-clause-frame g c = request_fits c.args.cursor.now c.args.frame c.n
 
 pub make-requires-clause-timely : goal.make-requires-clause-timely
 make-requires-clause-timely g c given = act_timely _ c.args.cursor.now c.args.frame c.now-now.result c.in-Call.request given c.now-now.ensures (sym c.act.ensures ∙ c.in-Call.is)
+
+pub tell-requires : goal.tell-requires
+tell-requires g c = act_fits c.args.cursor.now c.args.frame c.now-now.result c.in-Answer.frame (sym c.act.ensures ∙ c.in-Answer.is)
 
 pub returns-in-Call-clause-talk : goal.returns-in-Call-clause-talk
 returns-in-Call-clause-talk g c bytes read =

@@ -1,5 +1,5 @@
 use Rattle.std.proofs.Common.{Some, None, ap, ◌∙◌}
-use Rattle.system_plain.specs.Steps.{answer_frames}
+use Rattle.system_plain.specs.Turn.{answer_frames}
 use Rattle.connection.specs.Phases.{Over, Ticking, answered_by}
 use Rattle.connection.proofs.Talking.{talks_from, talks_still}
 use Rattle.connection.proofs.turns.answer.Goals as goal

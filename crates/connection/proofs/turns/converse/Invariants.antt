@@ -16,5 +16,5 @@ invariant-loop g l = record {
   standing : IsStanding (play_from l.pass.opening l.pass.seen) l.cursor;
   kept : l.pass ≡ record l.initial.pass { seen = l.pass.seen };
   talk : TalksOn (IsMadeSo (g.C.Clock.gives l.service.clock.now) (SomeShut g.K.Keeper.shut)) l.service.id (Ticking l.fn.first 0) (Ticking l.cursor l.quiets)
-      (account l.initial.pass (link_account g.L.Link.heard g.L.Link.sent g.L.Link.counts l.initial.link)) (account l.pass (link_account g.L.Link.heard g.L.Link.sent g.L.Link.counts l.link));
+      (account l.initial.pass (link_account g.L.Link l.initial.link)) (account l.pass (link_account g.L.Link l.link));
 }

@@ -1,11 +1,17 @@
 use Rattle.std.proofs.Common.{ap, refl, ◌∙◌}
 use Rattle.connection.specs.Phases.{Asking, Leaving}
 use Rattle.connection.proofs.Callers.{reply_fits_at}
+use Rattle.connection.proofs.Fitting.{answer_fits_at}
 use Rattle.connection.proofs.Talking.{asks_frame, asks_nothing, talks_to}
 use Rattle.connection.proofs.turns.make.Goals as goal
 
 pub answer-frame-requires-clause-replied : goal.answer-frame-requires-clause-replied
 answer-frame-requires-clause-replied g c = let told = c.in-Ok.ensures.reply in reply_fits_at _ told.0 _ c.args.request.now c.in-Ok.reply told.1
+
+pub answer-requires : goal.answer-requires
+answer-requires g c =
+    let told = c.in-Ok.ensures.reply in
+    answer_fits_at _ told.0 _ c.args.request.now c.in-Ok.reply c.answer-frame.result told.1 c.answer-frame.ensures
 
 pub returns-in-Err-clause-talk : goal.returns-in-Err-clause-talk
 returns-in-Err-clause-talk g c =

@@ -1,12 +1,16 @@
 use Rattle.std.proofs.Common.{ap, refl, ◌∙◌}
 use Rattle.connection.specs.Phases.{Leaving, Pulling}
 use Rattle.connection.proofs.Callers.{batch_at, pulled_so}
+use Rattle.connection.proofs.Fitting.{batch_fits_at}
 use Rattle.connection.proofs.Talking.{asks_nothing, asks_pull, talks_to}
 use Rattle.connection.proofs.turns.pull.Goals as goal
 use Rattle.join_sync.specs.Batches.{most_pulled}
 
-pub hand_out-requires : goal.hand_out-requires
-hand_out-requires g c = let told = c.in-Ok.ensures.reply in batch_at _ told.0 _ c.args.cursor.now most_pulled c.in-Ok.batch c.requires.standing told.1
+pub hand_out-requires-clause-batch : goal.hand_out-requires-clause-batch
+hand_out-requires-clause-batch g c = let told = c.in-Ok.ensures.reply in batch_at _ told.0 _ c.args.cursor.now most_pulled c.in-Ok.batch c.requires.standing told.1
+
+pub hand_out-requires-clause-fit : goal.hand_out-requires-clause-fit
+hand_out-requires-clause-fit g c = let told = c.in-Ok.ensures.reply in batch_fits_at _ told.0 _ c.args.cursor.now most_pulled c.in-Ok.batch told.1
 
 pub returns-in-Err-clause-talk : goal.returns-in-Err-clause-talk
 returns-in-Err-clause-talk g c quiets =

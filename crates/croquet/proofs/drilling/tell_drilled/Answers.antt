@@ -10,6 +10,9 @@ pub returns-in_default : goal.returns-in_default
 returns-in_default g c =
     rw c.in_default.is (ran_closed _ _ ByWant OutOfMemory c.args.files.now c.args.out.now c.tell_want_of_memory.new.out c.tell_want_of_memory.result (refl, refl) c.tell_want_of_memory.ensures)
 
+pub outcome_of-requires : goal.outcome_of-requires
+outcome_of-requires g c = rw c.in-Ok.is at c.requires
+
 pub returns-in-Ok-outcome_of : goal.returns-in-Ok-outcome_of
 returns-in-Ok-outcome_of g c =
     rw c.in-Ok.is

@@ -7,5 +7,5 @@ use Rattle.croquet.proofs.giving.give.Given as goal
 -- what comes of the files that are left, and of the text, comes of all
 abbrev pub invariant-loop-put : goal.invariant-loop-put
 invariant-loop-put g l =
-    LeadsOn (files_tell g.F.Files.held g.F.Files.asked g.F.Files.faults g.F.Files.wants) (output_tells g.W.Sink.written g.W.Sink.faults g.W.Sink.wants)
+    LeadsOn (files_tell g.F.Files) (output_tells g.W.Sink)
     (steps_of (drop l.put-index l.put-items) l.outcome.text) l.files l.out (steps_of l.put-items l.outcome.text) l.fn.files l.fn.out

@@ -1,4 +1,5 @@
 use Rattle.command_outcome.specs.Outcome.{steps_of}
+use Rattle.command_reflect.specs.ReflectedSteps.{reflected_text}
 use Rattle.croquet.proofs.ReflectorRuns.{ran_cut, ran_told}
 use Rattle.croquet.proofs.Runs.{ran_wanting}
 use Rattle.croquet.proofs.reflecting.give_ends.Goals as goal
@@ -8,10 +9,10 @@ returns-in_default g c = ran_wanting _ _ _ c.args.files.now c.args.out.now c.tel
 
 pub returns-in-Ok-give : goal.returns-in-Ok-give
 returns-in-Ok-give g c =
-    ran_told _ _ c.args.reflected.now.ends c.args.reflected.now.session.plain c.args.unkept c.args.reflected.now.stopped (steps_of c.in-Ok.outcome.files c.in-Ok.outcome.text) (rw c.as_slice.ensures at c.in-Ok.ensures)
+    ran_told _ _ (reflected_text c.args.reflected.now.ends c.args.reflected.now.session.plain) c.args.unkept c.args.reflected.now.stopped (steps_of c.in-Ok.outcome.files c.in-Ok.outcome.text) (rw c.as_slice.ensures at c.in-Ok.ensures)
     c.args.files.now c.give.new.files c.args.out.now c.give.new.out c.tell_end.new.out c.tell_end.result c.in-Ok-give.ensures c.tell_end.ensures
 
 pub returns : goal.returns
 returns g c =
-    ran_cut _ _ c.args.reflected.now.ends c.args.reflected.now.session.plain c.args.unkept c.args.reflected.now.stopped (steps_of c.in-Ok.outcome.files c.in-Ok.outcome.text) (rw c.as_slice.ensures at c.in-Ok.ensures)
+    ran_cut _ _ (reflected_text c.args.reflected.now.ends c.args.reflected.now.session.plain) c.args.unkept c.args.reflected.now.stopped (steps_of c.in-Ok.outcome.files c.in-Ok.outcome.text) (rw c.as_slice.ensures at c.in-Ok.ensures)
     c.args.files.now c.give.new.files c.args.out.now c.give.new.out c.in-Err.status c.in-Err.ensures

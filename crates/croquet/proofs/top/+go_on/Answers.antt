@@ -45,6 +45,9 @@ returns-in-Reflects-clause-turns g t c = rw c.in-Reflects.is c.ready.ensures.tur
 pub returns-in-Keeps-clause-turns : goal.returns-in-Keeps-clause-turns
 returns-in-Keeps-clause-turns g t c = rw c.in-Keeps.is (record { steps = []; comes = refl; acts = refl })
 
+pub returns-in-Hosts-clause-turns : goal.returns-in-Hosts-clause-turns
+returns-in-Hosts-clause-turns g t c = rw c.in-Hosts.is c.ready_to_host.ensures.turns
+
 pub returns-in-Drills-clause-turns : goal.returns-in-Drills-clause-turns
 returns-in-Drills-clause-turns g t c = rw c.in-Drills.is (record { steps = []; comes = refl; acts = refl })
 

@@ -1,10 +1,11 @@
-use Rattle.std.proofs.Common.{inl, inr, refl}
+use Rattle.std.proofs.Common.{inl, inr, refl, arith}
 use Rattle.command_words.specs.CommandWords.{command_of}
 use Rattle.commands.specs.Verdict.{Comes}
-use Rattle.commands.specs.Work.{plain_keeping, plain_live, plain_reflection, visit_of}
+use Rattle.commands.specs.Work.{plain_hosting, plain_keeping, plain_live, plain_reflection, visit_of}
 use Rattle.commands.proofs.NetLaws.{never_on_net}
 use Rattle.croquet.proofs.Completeness.{is_complete}
-use Rattle.croquet.proofs.DrillRuns.{ran_drilling}
+use Rattle.croquet.proofs.DrillRuns.{drilled_whole, ran_drilling}
+use Rattle.croquet.proofs.HostRuns.{ran_hosting}
 use Rattle.croquet.proofs.KeptRuns.{ran_kept, ran_unkept}
 use Rattle.croquet.proofs.LiveRuns.{ran_living}
 use Rattle.croquet.proofs.ReflectorRuns.{ran_reflecting}
@@ -41,11 +42,30 @@ returns-in-Reflects-clause-ran g c =
       refl,
     )
 
+pub host-net-requires-clause-ids : goal.host-net-requires-clause-ids
+host-net-requires-clause-ids g c _ _ =
+    let sessions = c.in-Hosts.ensures.bounded.1 in
+    let some = sessions.0 in
+    let few = sessions.1 in
+    (rw c.as_slice.ensures (omega (arith, some)), rw c.as_slice.ensures (omega (arith, few)))
+
+pub returns-in-Hosts-clause-ran : goal.returns-in-Hosts-clause-ran
+returns-in-Hosts-clause-ran g c =
+    inl (
+      inr (inr (inl (ran_hosting _ _ _ _ _ (Comes (command_of c.args.words.now)) (plain_hosting c.in-Hosts.hosting) c.host-net.result.1 c.args.files.now c.begin.new.files c.tell_hosted-status.new.files c.args.out.now c.begin.new.out c.tell_hosted-status.new.out
+          c.args.net c.host-net.result.0 c.tell_hosted-status.result c.in-Hosts.ensures.turns (rw c.as_slice.ensures at c.host-net.ensures) c.tell_hosted-status.ensures))),
+      refl,
+      refl,
+    )
+
+pub tell_drilled-status-requires : goal.tell_drilled-status-requires
+tell_drilled-status-requires g c = drilled_whole _ _ c.drill-answer.result c.drill-answer.ensures
+
 pub returns-in-Drills-clause-ran : goal.returns-in-Drills-clause-ran
 returns-in-Drills-clause-ran g c =
     inl (
-      inr (inr (ran_drilling _ _ _ _ _ (Comes (command_of c.args.words.now)) c.in-Drills.request c.drill-answer.result c.args.files.now c.begin.new.files c.tell_drilled-status.new.files c.args.out.now c.begin.new.out c.tell_drilled-status.new.out
-          c.args.net c.tell_drilled-status.result c.in-Drills.ensures.turns c.drill-answer.ensures c.tell_drilled-status.ensures)),
+      inr (inr (inr (ran_drilling _ _ _ _ _ (Comes (command_of c.args.words.now)) c.in-Drills.request c.drill-answer.result c.args.files.now c.begin.new.files c.tell_drilled-status.new.files c.args.out.now c.begin.new.out c.tell_drilled-status.new.out
+          c.args.net c.tell_drilled-status.result c.in-Drills.ensures.turns c.drill-answer.ensures c.tell_drilled-status.ensures))),
       refl,
       refl,
     )
@@ -82,6 +102,10 @@ pub returns-in-Reflects-clause-complete : goal.returns-in-Reflects-clause-comple
 returns-in-Reflects-clause-complete g c =
     is_complete _ _ _ _ _ _ c.one_verdict.ensures c.ends_are_caused.ensures.peer c.ends_are_caused.ensures.ended c.ends_are_caused.ensures.refused _ (command_of c.args.words.now) _ _ _ _ _ _ c.tell_reflected-status.result (returns-in-Reflects-clause-ran g c)
 
+pub returns-in-Hosts-clause-complete : goal.returns-in-Hosts-clause-complete
+returns-in-Hosts-clause-complete g c =
+    is_complete _ _ _ _ _ _ c.one_verdict.ensures c.ends_are_caused.ensures.peer c.ends_are_caused.ensures.ended c.ends_are_caused.ensures.refused _ (command_of c.args.words.now) _ _ _ _ _ _ c.tell_hosted-status.result (returns-in-Hosts-clause-ran g c)
+
 pub returns-in-Drills-clause-complete : goal.returns-in-Drills-clause-complete
 returns-in-Drills-clause-complete g c = is_complete _ _ _ _ _ _ c.one_verdict.ensures c.ends_are_caused.ensures.peer c.ends_are_caused.ensures.ended c.ends_are_caused.ensures.refused _ (command_of c.args.words.now) _ _ _ _ _ _ c.tell_drilled-status.result (returns-in-Drills-clause-ran g c)
 
@@ -91,7 +115,7 @@ returns-in-Ok-clause-complete g c = is_complete _ _ _ _ _ _ c.one_verdict.ensure
 pub returns-in-Err-clause-complete : goal.returns-in-Err-clause-complete
 returns-in-Err-clause-complete g c = is_complete _ _ _ _ _ _ c.one_verdict.ensures c.ends_are_caused.ensures.peer c.ends_are_caused.ensures.ended c.ends_are_caused.ensures.refused _ (command_of c.args.words.now) _ _ _ _ _ _ c.in-Err.status (returns-in-Err-clause-ran g c)
 
--- a command that goes on with a net is `join` or `reflect`
+-- a command that goes on with a net is `join`, `reflect` or `host`
 pub returns-in-Visits-clause-net : goal.returns-in-Visits-clause-net
 returns-in-Visits-clause-net g c = λ other. absurd (never_on_net (command_of c.args.words.now) other _ c.in-Visits.ensures.turns.comes tt)
 
@@ -100,6 +124,9 @@ returns-in-Lives-clause-net g c = λ other. absurd (never_on_net (command_of c.a
 
 pub returns-in-Reflects-clause-net : goal.returns-in-Reflects-clause-net
 returns-in-Reflects-clause-net g c = λ other. absurd (never_on_net (command_of c.args.words.now) other _ c.in-Reflects.ensures.turns.comes tt)
+
+pub returns-in-Hosts-clause-net : goal.returns-in-Hosts-clause-net
+returns-in-Hosts-clause-net g c = λ other. absurd (never_on_net (command_of c.args.words.now) other _ c.in-Hosts.ensures.turns.comes tt)
 
 pub returns-in-Ok-clause-net : goal.returns-in-Ok-clause-net
 returns-in-Ok-clause-net g c = λ other. absurd (never_on_net (command_of c.args.words.now) other _ c.in-Keeps.ensures.turns.comes tt)

@@ -15,12 +15,13 @@ use Rattle.drill.specs.declared.trust.TrustReplay.{TrustReplay}
 use Rattle.drill.specs.declared.worker.Worker.{Worker}
 use Rattle.drill.specs.Drill.{HasDrilled}
 use Rattle.drill.specs.Drilling.{ComesToEnd, GathersWorkers, HaveEnded, MayRest, numbers_from, rested_of, views_of_workers}
+use Rattle.drill.specs.Ending.{HasReplay}
 use Rattle.drill.specs.Program.{IsDrillProgram}
-use Rattle.drill.specs.Reports.{IsAtEnd, Reports}
+use Rattle.drill.specs.Reports.{Reports}
 use Rattle.drill.proofs.Drillings.{IsClosed}
 use Rattle.drill.proofs.Making.{all_held}
 use Rattle.drill.proofs.Orders.{if_ok_weaker}
-use Rattle.drill.proofs.Replicas.{all_reported, few_replicas, has_drilled, may_rest, some_replica}
+use Rattle.drill.proofs.Replicas.{all_replayed, few_replicas, has_drilled, may_rest, some_replica}
 use Rattle.drill.proofs.drilling.drill.Goals as goal
 
 -- the workers have ended, and their session is closed
@@ -70,9 +71,9 @@ report-requires-clause-ended g c =
     let told = c.in_ok-prepared.ensures.prepared in
     let program_is : arc_value prepared.shared.trust.program ≡ c.deref.result.now = told.trusts ∙ sym c.deref.ensures in
     let id_is : prepared.shared.id.0 ≡ prepared.id.0 = ap (λ (i : SessionId). i.0) told.same_id in
-    subst (λ (i : List ℕ). All (IsAtEnd s c.deref.result.now i) c.in_ok-replicas.replicas) id_is
-    (subst (λ (p : CheckedView). All (IsAtEnd s p prepared.shared.id.0) c.in_ok-replicas.replicas) program_is
-    (all_reported _ _ _ _ _ _ closed c.in_ok-replicas.replicas (come_by _ _ _ _ c.in_ok-rested.ensures.rested c.in_ok-replicas.ensures)))
+    subst (λ (i : List ℕ). All (HasReplay s (founding_of c.deref.result.now) i) c.in_ok-replicas.replicas) id_is
+    (subst (λ (p : CheckedView). All (HasReplay s (founding_of p) prepared.shared.id.0) c.in_ok-replicas.replicas) program_is
+    (all_replayed _ _ _ _ _ _ closed c.in_ok-replicas.replicas (come_by _ _ _ _ c.in_ok-rested.ensures.rested c.in_ok-replicas.ensures)))
 
 pub returns : goal.returns
 returns g c =

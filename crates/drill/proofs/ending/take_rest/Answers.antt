@@ -21,14 +21,14 @@ loop-place-preserved c =
 
 pub take_fine-requires-2-clause-fine : goal.take_fine-requires-2-clause-fine
 take_fine-requires-2-clause-fine c =
-    (takes_last c.args.session.now.plain c.log-log.result.now.entries c.loop-place.place c.len-place-end.result c.horizon-horizon.result c.loop-place.replica c.worlds_stand.ensures c.worlds_replay.ensures.replays c.loop-place.invariant.0
-    c.horizon-horizon.ensures.value c.len-place-end.ensures.len c.loop-place-test.false).0
+    (takes_last c.args.session.now.plain c.log-log.result.now.entries c.loop-place.place c.len-place-end.result c.horizon-horizon.result c.args.replica.now c.loop-place.replica c.worlds_stand.ensures c.worlds_replay.ensures.replays c.loop-place.invariant.0
+    c.horizon-horizon.ensures.value c.len-place-end.ensures.len c.loop-place-test.false c.loop-place.invariant.2.view).0
 
 pub returns-clause-replays : goal.returns-clause-replays
 returns-clause-replays c =
     on_ok_weaker c.take_fine-2.result
-    ((takes_last c.args.session.now.plain c.log-log.result.now.entries c.loop-place.place c.len-place-end.result c.horizon-horizon.result c.loop-place.replica c.worlds_stand.ensures c.worlds_replay.ensures.replays c.loop-place.invariant.0
-    c.horizon-horizon.ensures.value c.len-place-end.ensures.len c.loop-place-test.false).1 c.take_fine-2.new.replica) c.take_fine-2.ensures
+    ((takes_last c.args.session.now.plain c.log-log.result.now.entries c.loop-place.place c.len-place-end.result c.horizon-horizon.result c.args.replica.now c.loop-place.replica c.worlds_stand.ensures c.worlds_replay.ensures.replays c.loop-place.invariant.0
+    c.horizon-horizon.ensures.value c.len-place-end.ensures.len c.loop-place-test.false c.loop-place.invariant.2.view).1 c.take_fine-2.new.replica) c.take_fine-2.ensures
 
 pub returns-clause-kept : goal.returns-clause-kept
 returns-clause-kept c =

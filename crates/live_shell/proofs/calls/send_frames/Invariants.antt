@@ -5,4 +5,4 @@ use Rattle.live_shell.proofs.calls.send_frames.Given as goal
 
 -- the frames so far were sent
 abbrev pub invariant-loop-frame : goal.invariant-loop-frame
-invariant-loop-frame g l = SentSoFar (links_tell g.L.Link.coming g.L.Link.heard g.L.Link.sent g.L.Link.counts) l.frames (drop l.frame-index l.frames) l.fn.link l.link
+invariant-loop-frame g l = SentSoFar (links_tell g.L.Link) l.frames (drop l.frame-index l.frames) l.fn.link l.link

@@ -1,5 +1,6 @@
 use Rattle.std.proofs.Common.{Some, refl, subst, Bool, ◌≡◌}
 use Rattle.std.specs.Prelude.{MatchBool, ⊤}
+use Rattle.std.proofs.lemmas.Result.{err_from_is_err_and}
 use Rattle.run_steps.specs.Outside.{links_tell, net_tells, output_tells}
 use Rattle.live_view.specs.declared.outcome.LiveWant.TheVariants as want
 use Rattle.live_view.specs.Live.{wanted}
@@ -19,33 +20,35 @@ returns-then-not-wants_input-clause-wants g c address =
 
 pub returns-then-not-wants_input-clause-turned : goal.returns-then-not-wants_input-clause-turned
 returns-then-not-wants_input-clause-turned g c =
-    let tells = live_tells (feed_tells g.K.Feed.coming g.K.Feed.told g.K.Feed.faults) (output_tells g.W.Sink.written g.W.Sink.faults g.W.Sink.wants) (net_tells g.N.Net.coming g.N.Net.over g.N.Net.asked g.N.Net.faults g.N.Net.lent g.N.Net.link_counts)
-    (links_tell g.N.Conn.Link.coming g.N.Conn.Link.heard g.N.Conn.Link.sent g.N.Conn.Link.counts) in
+    let tells = live_tells (feed_tells g.K.Feed) (output_tells g.W.Sink) (net_tells g.N.Net)
+    (links_tell g.N.Conn.Link) in
     record {
       turns = λ address net. turned_any tells address 0 (AreCounted c.loop.lines) (AreAny {A = ⊤} tt) (live_state address c.args.view.now) (live_state address c.loop.view)
           (live_outside c.args.feed.now c.args.out.now net (Some c.args.link.now)) (live_outside c.loop.feed c.loop.out net (Some c.loop.link)) (λ n. tt) (c.loop.invariant.turned.turns address net);
     }
 
-pub returns-in-Err-clause-turned : goal.returns-in-Err-clause-turned
-returns-in-Err-clause-turned g c =
-    let tells = live_tells (feed_tells g.K.Feed.coming g.K.Feed.told g.K.Feed.faults) (output_tells g.W.Sink.written g.W.Sink.faults g.W.Sink.wants) (net_tells g.N.Net.coming g.N.Net.over g.N.Net.asked g.N.Net.faults g.N.Net.lent g.N.Net.link_counts)
-    (links_tell g.N.Conn.Link.coming g.N.Conn.Link.heard g.N.Conn.Link.sent g.N.Conn.Link.counts) in
-    record {
-      turns = λ address net. stopped_counted tells address 0 c.loop.lines (live_state address c.args.view.now) (live_state address c.loop.view) c.in-Err.end
+pub returns-in_err-lines-clause-turned : goal.returns-in_err-lines-clause-turned
+returns-in_err-lines-clause-turned g c =
+    let tells = live_tells (feed_tells g.K.Feed) (output_tells g.W.Sink) (net_tells g.N.Net)
+    (links_tell g.N.Conn.Link) in
+    let handed = err_from_is_err_and c.from_residual.result c.from_residual.ensures.1 in
+    rw (handed.1, handed.2)
+    (record {
+      turns = λ address net. stopped_counted tells address 0 c.loop.lines (live_state address c.args.view.now) (live_state address c.loop.view) c.in_err-lines.field-0.0
           (live_outside c.args.feed.now c.args.out.now net (Some c.args.link.now)) (live_outside c.loop.feed c.loop.out net (Some c.loop.link)) (live_outside c.turn.new.feed c.turn.new.out net (Some c.turn.new.link))
-          (c.loop.invariant.turned.turns address net) (c.in-Err.ensures.turned.turns address net);
-    }
+          (c.loop.invariant.turned.turns address net) (c.in_err-lines.ensures.turned.turns address net);
+    })
 
 pub loop-preserved : goal.loop-preserved
 loop-preserved g c =
-    let tells = live_tells (feed_tells g.K.Feed.coming g.K.Feed.told g.K.Feed.faults) (output_tells g.W.Sink.written g.W.Sink.faults g.W.Sink.wants) (net_tells g.N.Net.coming g.N.Net.over g.N.Net.asked g.N.Net.faults g.N.Net.lent g.N.Net.link_counts)
-    (links_tell g.N.Conn.Link.coming g.N.Conn.Link.heard g.N.Conn.Link.sent g.N.Conn.Link.counts) in
+    let tells = live_tells (feed_tells g.K.Feed) (output_tells g.W.Sink) (net_tells g.N.Net)
+    (links_tell g.N.Conn.Link) in
     record {
       live = c.turn.ensures.live;
       turned = record {
-        turns = λ address net. turned_counted tells address 0 c.loop.lines (AreCounted c.in-Ok.behind) (live_state address c.args.view.now) (live_state address c.loop.view) (live_state address c.turn.new.view)
+        turns = λ address net. turned_counted tells address 0 c.loop.lines (AreCounted c.in_ok-lines.lines) (live_state address c.args.view.now) (live_state address c.loop.view) (live_state address c.turn.new.view)
             (live_outside c.args.feed.now c.args.out.now net (Some c.args.link.now)) (live_outside c.loop.feed c.loop.out net (Some c.loop.link)) (live_outside c.turn.new.feed c.turn.new.out net (Some c.turn.new.link))
-            (c.loop.invariant.turned.turns address net) (c.in-Ok.ensures.turned.turns address net);
+            (c.loop.invariant.turned.turns address net) (c.in_ok-lines.ensures.turned.turns address net);
       };
     }
 

@@ -9,7 +9,7 @@ use Rattle.live_shell.proofs.run.attend.Given as goal
 abbrev pub invariant-loop : goal.invariant-loop
 invariant-loop g l = record {
   live : IsLive l.view;
-  turned : Attends {A = ℕ} (live_tells (feed_tells g.K.Feed.coming g.K.Feed.told g.K.Feed.faults) (output_tells g.W.Sink.written g.W.Sink.faults g.W.Sink.wants) (net_tells g.N.Net.coming g.N.Net.over g.N.Net.asked g.N.Net.faults g.N.Net.lent g.N.Net.link_counts)
-      (links_tell g.N.Conn.Link.coming g.N.Conn.Link.heard g.N.Conn.Link.sent g.N.Conn.Link.counts))
+  turned : Attends {A = ℕ} (live_tells (feed_tells g.K.Feed) (output_tells g.W.Sink) (net_tells g.N.Net)
+      (links_tell g.N.Conn.Link))
       0 AreCounted (λ address. live_state address l.fn.view) (λ address. live_state address l.view) (Ok l.lines) l.fn.feed l.feed l.fn.out l.out l.fn.link l.link;
 }

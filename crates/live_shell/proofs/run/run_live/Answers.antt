@@ -10,15 +10,15 @@ use Rattle.live_shell.proofs.run.run_live.Goals as goal
 
 pub returns-in_default : goal.returns-in_default
 returns-in_default g c =
-    let tells = live_tells (feed_tells g.K.Feed.coming g.K.Feed.told g.K.Feed.faults) (output_tells g.W.Sink.written g.W.Sink.faults g.W.Sink.wants) (net_tells g.N.Net.coming g.N.Net.over g.N.Net.asked g.N.Net.faults g.N.Net.lent g.N.Net.link_counts)
-    (links_tell g.N.Conn.Link.coming g.N.Conn.Link.heard g.N.Conn.Link.sent g.N.Conn.Link.counts) in
+    let tells = live_tells (feed_tells g.K.Feed) (output_tells g.W.Sink) (net_tells g.N.Net)
+    (links_tell g.N.Conn.Link) in
     let visit = c.args.visit.now in
     record { ran = ran_without tells visit.address (first_state (founding_of (arc_value visit.program)) visit.id.0 visit.view visit.address) c.args.feed.now c.args.out.now c.args.net.now }
 
 pub returns-in-Err : goal.returns-in-Err
 returns-in-Err g c =
-    let tells = live_tells (feed_tells g.K.Feed.coming g.K.Feed.told g.K.Feed.faults) (output_tells g.W.Sink.written g.W.Sink.faults g.W.Sink.wants) (net_tells g.N.Net.coming g.N.Net.over g.N.Net.asked g.N.Net.faults g.N.Net.lent g.N.Net.link_counts)
-    (links_tell g.N.Conn.Link.coming g.N.Conn.Link.heard g.N.Conn.Link.sent g.N.Conn.Link.counts) in
+    let tells = live_tells (feed_tells g.K.Feed) (output_tells g.W.Sink) (net_tells g.N.Net)
+    (links_tell g.N.Conn.Link) in
     let visit = c.args.visit.now in
     record { ran = ran_without tells visit.address (first_state (founding_of (arc_value visit.program)) visit.id.0 visit.view visit.address) c.args.feed.now c.args.out.now c.args.net.now }
 
@@ -29,8 +29,8 @@ visit_links-end-requires-clause-wants g c κs within address =
 
 pub returns : goal.returns
 returns g c =
-    let tells = live_tells (feed_tells g.K.Feed.coming g.K.Feed.told g.K.Feed.faults) (output_tells g.W.Sink.written g.W.Sink.faults g.W.Sink.wants) (net_tells g.N.Net.coming g.N.Net.over g.N.Net.asked g.N.Net.faults g.N.Net.lent g.N.Net.link_counts)
-    (links_tell g.N.Conn.Link.coming g.N.Conn.Link.heard g.N.Conn.Link.sent g.N.Conn.Link.counts) in
+    let tells = live_tells (feed_tells g.K.Feed) (output_tells g.W.Sink) (net_tells g.N.Net)
+    (links_tell g.N.Conn.Link) in
     let visit = c.args.visit.now in
     let same : arc_value c.in-Ok.program ≡ arc_value visit.program = c.in-Ok.ensures.cases in
     record {

@@ -7,8 +7,8 @@ use Rattle.live_shell.proofs.run.visit.Goals as goal
 
 pub returns-in-Err-Failed-clause-visited : goal.returns-in-Err-Failed-clause-visited
 returns-in-Err-Failed-clause-visited g c =
-    let tells = live_tells (feed_tells g.K.Feed.coming g.K.Feed.told g.K.Feed.faults) (output_tells g.W.Sink.written g.W.Sink.faults g.W.Sink.wants) (net_tells g.N.Net.coming g.N.Net.over g.N.Net.asked g.N.Net.faults g.N.Net.lent g.N.Net.link_counts)
-    (links_tell g.N.Conn.Link.coming g.N.Conn.Link.heard g.N.Conn.Link.sent g.N.Conn.Link.counts) in
+    let tells = live_tells (feed_tells g.K.Feed) (output_tells g.W.Sink) (net_tells g.N.Net)
+    (links_tell g.N.Conn.Link) in
     let address = c.args.address.now in
     record {
       turns = λ lines from back. missed tells address lines (live_state address c.args.view.now) (live_state address c.go_without.new.view) c.go_without.result from c.args.feed.now c.go_without.new.feed c.args.out.now c.args.net.now c.connect.new.net back
@@ -18,8 +18,8 @@ returns-in-Err-Failed-clause-visited g c =
 
 pub returns-in-Err-WantOfMemory-clause-visited : goal.returns-in-Err-WantOfMemory-clause-visited
 returns-in-Err-WantOfMemory-clause-visited g c =
-    let tells = live_tells (feed_tells g.K.Feed.coming g.K.Feed.told g.K.Feed.faults) (output_tells g.W.Sink.written g.W.Sink.faults g.W.Sink.wants) (net_tells g.N.Net.coming g.N.Net.over g.N.Net.asked g.N.Net.faults g.N.Net.lent g.N.Net.link_counts)
-    (links_tell g.N.Conn.Link.coming g.N.Conn.Link.heard g.N.Conn.Link.sent g.N.Conn.Link.counts) in
+    let tells = live_tells (feed_tells g.K.Feed) (output_tells g.W.Sink) (net_tells g.N.Net)
+    (links_tell g.N.Conn.Link) in
     let address = c.args.address.now in
     record {
       turns = λ lines from back. made_wants tells address lines (live_state address c.args.view.now) (live_state address c.args.view.now) from c.args.feed.now c.args.out.now c.args.net.now c.connect.new.net (c.requires.wants address) back
@@ -28,8 +28,8 @@ returns-in-Err-WantOfMemory-clause-visited g c =
 
 pub returns-clause-visited : goal.returns-clause-visited
 returns-clause-visited g c =
-    let tells = live_tells (feed_tells g.K.Feed.coming g.K.Feed.told g.K.Feed.faults) (output_tells g.W.Sink.written g.W.Sink.faults g.W.Sink.wants) (net_tells g.N.Net.coming g.N.Net.over g.N.Net.asked g.N.Net.faults g.N.Net.lent g.N.Net.link_counts)
-    (links_tell g.N.Conn.Link.coming g.N.Conn.Link.heard g.N.Conn.Link.sent g.N.Conn.Link.counts) in
+    let tells = live_tells (feed_tells g.K.Feed) (output_tells g.W.Sink) (net_tells g.N.Net)
+    (links_tell g.N.Conn.Link) in
     let address = c.args.address.now in
     record {
       turns = λ lines from back. visited tells address lines (live_state address c.args.view.now) (live_state address c.enter-attended.new.view) c.enter-attended.result from c.args.feed.now c.enter-attended.new.feed c.args.out.now c.enter-attended.new.out c.connect.new.net c.back.new.self c.enter-attended.new.link

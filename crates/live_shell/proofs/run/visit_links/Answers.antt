@@ -7,15 +7,15 @@ use Rattle.live_shell.proofs.run.visit_links.Goals as goal
 
 pub loop-init : goal.loop-init
 loop-init g c =
-    let tells = live_tells (feed_tells g.K.Feed.coming g.K.Feed.told g.K.Feed.faults) (output_tells g.W.Sink.written g.W.Sink.faults g.W.Sink.wants) (net_tells g.N.Net.coming g.N.Net.over g.N.Net.asked g.N.Net.faults g.N.Net.lent g.N.Net.link_counts)
-    (links_tell g.N.Conn.Link.coming g.N.Conn.Link.heard g.N.Conn.Link.sent g.N.Conn.Link.counts) in
+    let tells = live_tells (feed_tells g.K.Feed) (output_tells g.W.Sink) (net_tells g.N.Net)
+    (links_tell g.N.Conn.Link) in
     let address = c.args.address.now in
     record { live = c.requires.live; wants = c.requires.wants; so_far = none_yet tells address (live_state address c.args.view.now) c.args.feed.now c.args.out.now c.args.net.now }
 
 pub returns-in-Over : goal.returns-in-Over
 returns-in-Over g c =
-    let tells = live_tells (feed_tells g.K.Feed.coming g.K.Feed.told g.K.Feed.faults) (output_tells g.W.Sink.written g.W.Sink.faults g.W.Sink.wants) (net_tells g.N.Net.coming g.N.Net.over g.N.Net.asked g.N.Net.faults g.N.Net.lent g.N.Net.link_counts)
-    (links_tell g.N.Conn.Link.coming g.N.Conn.Link.heard g.N.Conn.Link.sent g.N.Conn.Link.counts) in
+    let tells = live_tells (feed_tells g.K.Feed) (output_tells g.W.Sink) (net_tells g.N.Net)
+    (links_tell g.N.Conn.Link) in
     let address = c.args.address.now in
     record {
       ran = ran_over tells address (live_state address c.args.view.now) (live_state address c.loop.view) c.in-Over.end (live_outside c.args.feed.now c.args.out.now c.args.net.now None) (live_outside c.loop.feed c.loop.out c.loop.net None)
@@ -24,8 +24,8 @@ returns-in-Over g c =
 
 pub returns-in-Err : goal.returns-in-Err
 returns-in-Err g c =
-    let tells = live_tells (feed_tells g.K.Feed.coming g.K.Feed.told g.K.Feed.faults) (output_tells g.W.Sink.written g.W.Sink.faults g.W.Sink.wants) (net_tells g.N.Net.coming g.N.Net.over g.N.Net.asked g.N.Net.faults g.N.Net.lent g.N.Net.link_counts)
-    (links_tell g.N.Conn.Link.coming g.N.Conn.Link.heard g.N.Conn.Link.sent g.N.Conn.Link.counts) in
+    let tells = live_tells (feed_tells g.K.Feed) (output_tells g.W.Sink) (net_tells g.N.Net)
+    (links_tell g.N.Conn.Link) in
     let address = c.args.address.now in
     record {
       ran = ran_stops tells address (live_state address c.args.view.now) (live_state address c.loop.view) (live_state address c.visit.new.view) c.in-Err.end
@@ -35,8 +35,8 @@ returns-in-Err g c =
 
 pub loop-preserved : goal.loop-preserved
 loop-preserved g c =
-    let tells = live_tells (feed_tells g.K.Feed.coming g.K.Feed.told g.K.Feed.faults) (output_tells g.W.Sink.written g.W.Sink.faults g.W.Sink.wants) (net_tells g.N.Net.coming g.N.Net.over g.N.Net.asked g.N.Net.faults g.N.Net.lent g.N.Net.link_counts)
-    (links_tell g.N.Conn.Link.coming g.N.Conn.Link.heard g.N.Conn.Link.sent g.N.Conn.Link.counts) in
+    let tells = live_tells (feed_tells g.K.Feed) (output_tells g.W.Sink) (net_tells g.N.Net)
+    (links_tell g.N.Conn.Link) in
     let address = c.args.address.now in
     record {
       live = c.visit.ensures.live;

@@ -10,7 +10,7 @@ pub returns-clause-talk : goal.returns-clause-talk
 returns-clause-talk c v frames task = record {
   leads = λ next.
       let old = c.args.out.now in
-      let pushed = c.in_ok-push.ensures.ok ∙ ap (λ (bytes : List ℕ). old.frames ++ bytes ∷ []) c.in_ok-bytes.ensures.spelled in
+      let pushed = c.in_ok-push.ensures.ok ∙ ap (λ (bytes : List ℕ). old.frames ++ bytes ∷ []) c.in_ok-bytes.ensures in
       ap (after old) (drive_sends next v c.args.frame.now frames task)
-      ∙ after_send old (record old { frames = c.push.new.self }) c.args.frame.now (drive next (send_all (record v { receives = 0 }) frames task)) c.in_ok-bytes.ensures.fits pushed refl;
+      ∙ after_send old (record old { frames = c.push.new.self }) c.args.frame.now (drive next (send_all (record v { receives = 0 }) frames task)) (c.requires, c.typed_client.ensures) pushed refl;
 }

@@ -1,11 +1,16 @@
 use Rattle.std.proofs.Common.{ℕ, ◌+◌, ◌<◌, length, drop, ap, sym, ◌∙◌, arith}
 use Rattle.view_shell.specs.declared.watcher.Watcher.{Watcher}
 use Rattle.view_shell.specs.Phases.{send_all}
-use Rattle.view_shell.proofs.Going.{frame_at}
+use Rattle.view_shell.proofs.Going.{fits_at, frame_at}
 use Rattle.view_shell.proofs.Readiness.{ready_again}
 use Rattle.live_view.specs.Doing.{after}
 use Rattle.live_view.specs.Live.{drive}
 use Rattle.live_view.proofs.doing.send_frames.Goals as goal
+
+pub send-requires : goal.send-requires
+send-requires c =
+    let within : c.loop-frame.frame-index < length c.args.frames.now = omega arith in
+    fits_at c.args.frames.now c.loop-frame.frame-index c.frame-item.result c.requires within c.frame-item.is
 
 pub loop-frame-preserved : goal.loop-frame-preserved
 loop-frame-preserved c = record {

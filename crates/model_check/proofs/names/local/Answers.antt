@@ -1,13 +1,9 @@
-use Rattle.std.proofs.Common.{arith}
 use Rattle.model_solved.specs.declared.fault.CheckFault.TheVariants.{NoName}
 use Rattle.model_check.proofs.Places.{place_found, place_missing_told}
 use Rattle.model_check.proofs.names.local.Goals as goal
 
-pub place-requires : goal.place-requires
-place-requires c = rw c.deref.ensures.value (omega (arith, c.args.scope.now.within, c.args.scope.now.small))
-
 pub returns-in-Some : goal.returns-in-Some
-returns-in-Some c = place_found c.args.scope.now.names.items c.args.name.now (NoName c.args.name.now) c.in-Some.slot (rw c.deref.ensures.value at c.in-Some.ensures)
+returns-in-Some c = place_found c.args.scope.now.names.items c.args.name.now (NoName c.args.name.now) c.in-Some.slot (rw c.deref.ensures.value at c.in-Some.ensures.first)
 
 pub returns-in_ok-try_clone-in-None : goal.returns-in_ok-try_clone-in-None
-returns-in_ok-try_clone-in-None c = λ _. place_missing_told c.args.scope.now.names.items c.args.name.now c.in_ok-try_clone-in-None.field-0 (λ x. NoName x) (rw c.deref.ensures.value at c.in-None.ensures) c.in_ok-try_clone-in-None.ensures
+returns-in_ok-try_clone-in-None c = λ _. place_missing_told c.args.scope.now.names.items c.args.name.now c.in_ok-try_clone-in-None.field-0 (λ x. NoName x) (rw c.deref.ensures.value at c.in-None.ensures.first) c.in_ok-try_clone-in-None.ensures

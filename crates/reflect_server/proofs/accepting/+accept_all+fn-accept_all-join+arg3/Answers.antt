@@ -30,7 +30,7 @@ join-pass-requires-after_bounds g t c κs within =
 pub with_one-requires-clause-pass : goal.with_one-requires-clause-pass
 with_one-requires-clause-pass g t c =
     let popped = All-pop (IsFresh c.args.round.lead) c.args.passes.items c.pop.new.self.items (Some c.in-Some.pass) c.in-Some.ensures.items c.requires.passes in
-    served_at _ _ _ c.args.post.now.shared.now.session c.in-Some.pass c.join-pass.result.0.0 c.in-Ok.link c.join-pass.result.0.1 (popped.1.session ∙ c.requires.session) c.join-pass.ensures.first
+    served_at _ _ _ c.args.service.now.shared.now.session c.in-Some.pass c.join-pass.result.0.0 c.in-Ok.link c.join-pass.result.0.1 (popped.1.session ∙ c.requires.session) c.join-pass.ensures.first
 
 pub returns-clause-round : goal.returns-clause-round
 returns-clause-round g t c =

@@ -30,8 +30,8 @@ returns-in-Err-listen g c =
     let told = c.in-Err-listen.ensures in
     let made = c.in-Ok.prepared in
     let gives = g.C.Clock.gives c.args.server.now.clock.now in
-    let tells = net_tells {N = g.row.N.Denot} {L = g.row.N-Conn.Denot} g.N.Net.coming g.N.Net.over g.N.Net.asked g.N.Net.faults g.N.Net.lent g.N.Net.link_counts in
-    let links = links_tell {L = g.row.N-Conn.Denot} g.N.Conn.Link.coming g.N.Conn.Link.heard g.N.Conn.Link.sent g.N.Conn.Link.counts in
+    let tells = net_tells {N = g.row.N.Denot} {L = g.row.N-Conn.Denot} g.N.Net in
+    let links = links_tell {L = g.row.N-Conn.Denot} g.N.Conn.Link in
     let kept = keeper_tells g.K.Keeper.holds g.K.Keeper.shut g.K.Keeper.faults made.shared.faults made.lead.opening c.close_opened.result in
     reflects_of g.K.Keeper.holds g.K.Keeper.shut g.K.Keeper.faults c.close_opened.result gives c.args.server.now.id made.since c.args.opening.session.plain.horizon made.shared.faults (g.K.Keeper.faults c.args.opening.keeper)
     made.lead.opening c.args.opening.session.plain tells links (Listen c.args.server.now.address.now ∷ []) c.args.server.now.connections c.args.net c.listen.new.self (Err c.unheard.result)

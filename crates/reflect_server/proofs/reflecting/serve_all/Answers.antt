@@ -40,8 +40,8 @@ returns g c =
     let round = c.accept_all-net.result in
     let keeper = c.close_kept-session.result.1 in
     let faults = c.args.prepared.shared.faults in
-    let tells = net_tells {N = g.row.N.Denot} {L = g.row.N-Conn.Denot} g.N.Net.coming g.N.Net.over g.N.Net.asked g.N.Net.faults g.N.Net.lent g.N.Net.link_counts in
-    let links = links_tell {L = g.row.N-Conn.Denot} g.N.Conn.Link.coming g.N.Conn.Link.heard g.N.Conn.Link.sent g.N.Conn.Link.counts in
+    let tells = net_tells {N = g.row.N.Denot} {L = g.row.N-Conn.Denot} g.N.Net in
+    let links = links_tell {L = g.row.N-Conn.Denot} g.N.Conn.Link in
     let kept = keeper_tells g.K.Keeper.holds g.K.Keeper.shut g.K.Keeper.faults faults lead.opening keeper in
     let keeps = keeps_of g.K.Keeper.holds g.K.Keeper.shut g.K.Keeper.faults faults faults round.lead.opening lead.opening round.lead.seen keeper refl c.accept_all-net.ensures.round.passes.opening closed.keeper in
     let as_long : vec_len round.served ≡ length round.served.items = search rules in

@@ -1,4 +1,4 @@
-use Rattle.std.proofs.Common.{◌≡◌, ℕ, List, sym, ap, ◌∙◌}
+use Rattle.std.proofs.Common.{◌≡◌, ℕ, List, sym, ap, subst, ◌∙◌}
 use Rattle.tea_base.specs.declared.entry.Entry.{Entry}
 use Rattle.model_solved.specs.Founding.{Founding}
 use Rattle.world_plain.specs.World.{WorldRecord}
@@ -15,5 +15,8 @@ returns c =
     ∙ ap (λ (w : WorldRecord). (advance founding.tree t (take_up w)).world) (fold-externals founding id (first_scene founding id).world (entries_until t log)) in
     record {
       replays = same;
-      follows = λ founding w log. (λ follows. follows ∙ same founding w.id log w.time, λ follows. follows ∙ sym (same founding w.id log w.time));
+      follows = λ founding id log t is legal below.
+          let w = (replay founding id log t).world in
+          subst (λ u. (advance founding.tree u (take_up w)).world ≡ replay_world (worlds founding id) log u) (sym (c.replay_rests.ensures.time founding id log t is legal below))
+          (c.replay_rests.ensures.stays founding id log t is legal below ∙ same founding id log t);
     }

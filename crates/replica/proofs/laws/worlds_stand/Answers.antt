@@ -1,7 +1,7 @@
 use Rattle.std.proofs.Common.{sym, ap, ◌∙◌}
 use Rattle.world.specs.Worlds.{Scene, advance, take_up}
 use Rattle.replica.proofs.WorldTests.{own-passes, passes-own, spelled-passes}
-use Rattle.replica.proofs.Replays.{behind, rests-at}
+use Rattle.replica.proofs.Replays.{rests-at}
 use Rattle.replica.proofs.laws.worlds_stand.Goals as goal
 
 pub returns : goal.returns
@@ -29,6 +29,6 @@ returns c = λ founding id f.
       advance_rests = λ w t passes le below.
           let own = passes-own founding id w passes in
           rests-at t (advance program t (take_up w)).world (c.advance_rests.ensures.arrives program t (take_up w) p own.valid le) (c.advance_rests.ensures.rests program t (take_up w) p own.valid below);
-      at_rest_stays = λ w passes rests. ap (λ (a : Scene). a.world) (c.at_rest_stays.ensures program (take_up w) p (passes-own founding id w passes).valid (behind w.time w.pending rests));
+      at_rest_stays = λ w passes rests. ap (λ (a : Scene). a.world) (c.at_rest_stays.ensures program (take_up w) p (passes-own founding id w passes).valid rests);
       unsnap_valid = λ bytes w found. spelled-passes founding id bytes w found;
     }

@@ -39,7 +39,7 @@ module _ {C L : Type 0} (gives : C → ℕ → Type 0) (links : LinksTell L) (fo
 
 pub returns : goal.returns
 returns g c =
-    let links = links_tell g.L.Link.coming g.L.Link.heard g.L.Link.sent g.L.Link.counts in
+    let links = links_tell g.L.Link in
     let gives = g.C.Clock.gives in
     record {
       honest = λ founding id runs views s. keep gives links founding id runs views (c.worlds_stand.ensures founding id.0 s.program) s;

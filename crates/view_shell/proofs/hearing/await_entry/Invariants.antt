@@ -11,5 +11,5 @@ abbrev pub invariant-loop : goal.invariant-loop
 invariant-loop g l = record {
   published : l.watcher.published ≡ l.fn.watcher.published;
   ready : IsReady l.watcher;
-  talk : (address : List ℕ) (lines : List PlainLine) → Goes (LinkActs (links_tell g.L.Link.coming g.L.Link.heard g.L.Link.sent g.L.Link.counts)) (Receiving (viewer address l.fn.watcher lines) (ToSee l.at)) (Receiving (viewer address l.watcher lines) (ToSee l.at)) l.fn.link l.link;
+  talk : (address : List ℕ) (lines : List PlainLine) → Goes (LinkActs (links_tell g.L.Link)) (Receiving (viewer address l.fn.watcher lines) (ToSee l.at)) (Receiving (viewer address l.watcher lines) (ToSee l.at)) l.fn.link l.link;
 }

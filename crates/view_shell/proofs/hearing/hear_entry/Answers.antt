@@ -3,7 +3,7 @@ use Rattle.view_shell.specs.declared.ending.ViewEnd.TheVariants as ending
 use Rattle.view_shell.specs.Phases.{ToSee, Receiving, after_entry, bad_base}
 use Rattle.view_shell.specs.Viewers.{viewer}
 use Rattle.view_shell.specs.Hearing.{HeardPhase, voted_phase}
-use Rattle.view_shell.proofs.Going.{goes_and_stops, goes_to, link_acts_behind, link_wants, reaches_end}
+use Rattle.view_shell.proofs.Going.{goes_and_stops, goes_to, handed_on, link_acts_behind, link_wants, reaches_end}
 use Rattle.view_shell.proofs.Hearings.{stopped_base, stopped_end}
 use Rattle.view_shell.proofs.Voting.{heard_for_entry}
 use Rattle.view_shell.specs.declared.watcher.Watcher.{Watcher}
@@ -23,24 +23,25 @@ returns-in-Err-BadBase-clause-talk g c address lines =
     reaches_end _ from (bad_base v aim) ending.Peer _ _
     (stopped_base _ c.in-Err-BadBase.field-0 from v aim _ _ c.in-Err-BadBase.field-0-is (c.in-Err-BadBase.ensures.talk address lines aim)) refl
 
-pub returns-in-Ok-vote_if-clause-talk : goal.returns-in-Ok-vote_if-clause-talk
-returns-in-Ok-vote_if-clause-talk g c address lines =
+pub returns-clause-talk : goal.returns-clause-talk
+returns-clause-talk g c address lines =
     let aim = ToSee c.args.at in
     let from = Receiving (viewer address c.args.watcher.now lines) aim in
     let v = viewer address c.hear.new.watcher lines in
     let u = viewer address c.vote_if.new.watcher lines in
     let comes = c.brings_entry-comes.result in
     goes_to _ from (HeardPhase v aim c.in-Ok.frame) (voted_phase u c.args.at comes) c.args.link.now c.hear.new.link
-    (heard_for_entry v c.args.at c.in-Ok.frame ∙ ap (λ (b : Bool). after_entry b v c.args.at) (sym c.brings_entry-comes.ensures) ∙ c.in-Ok-vote_if.ensures.voted address lines)
+    (heard_for_entry v c.args.at c.in-Ok.frame ∙ ap (λ (b : Bool). after_entry b v c.args.at) (sym c.brings_entry-comes.ensures) ∙ c.in_ok-vote_if.ensures.voted address lines)
     (c.in-Ok.ensures.talk address lines aim)
 
-pub returns-in-Err-clause-talk : goal.returns-in-Err-clause-talk
-returns-in-Err-clause-talk g c address lines =
+pub returns-in_err-vote_if-clause-talk : goal.returns-in_err-vote_if-clause-talk
+returns-in_err-vote_if-clause-talk g c address lines =
     let aim = ToSee c.args.at in
     let from = Receiving (viewer address c.args.watcher.now lines) aim in
     let v = viewer address c.hear.new.watcher lines in
-    goes_and_stops _ (link_acts_behind _) from (HeardPhase v aim c.in-Ok.frame) c.in-Err.end c.args.link.now c.hear.new.link c.hear.new.link
-    (c.in-Ok.ensures.talk address lines aim) (link_wants _ _ _ _ c.in-Err.ensures.want)
+    rw (handed_on c.from_residual.result c.in_err-vote_if.field-0.0 c.from_residual.ensures.1)
+    (goes_and_stops _ (link_acts_behind _) from (HeardPhase v aim c.in-Ok.frame) c.in_err-vote_if.field-0.0 c.args.link.now c.hear.new.link c.hear.new.link
+    (c.in-Ok.ensures.talk address lines aim) (link_wants _ _ _ _ c.in_err-vote_if.ensures.want))
 
 pub vote_if-requires-clause-room : goal.vote_if-requires-clause-room
 vote_if-requires-clause-room g c =
@@ -48,8 +49,8 @@ vote_if-requires-clause-room g c =
     let room = c.requires.room in
     omega (arith, same, room)
 
-pub returns-in-Ok-vote_if-clause-count : goal.returns-in-Ok-vote_if-clause-count
-returns-in-Ok-vote_if-clause-count g c =
+pub returns-clause-count : goal.returns-clause-count
+returns-clause-count g c =
     let same : c.hear.new.watcher.published ≡ c.args.watcher.now.published = ap (λ (w : Watcher). w.published) c.hear.ensures.kept in
-    let count = c.in-Ok-vote_if.ensures.count in
+    let count = c.in_ok-vote_if.ensures.count in
     omega (arith, same, count)

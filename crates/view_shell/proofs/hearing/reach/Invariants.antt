@@ -11,5 +11,5 @@ abbrev pub invariant-loop : goal.invariant-loop
 invariant-loop g l = record {
   kept : l.watcher ≡ record l.fn.watcher { replica = l.watcher.replica; receives = l.watcher.receives; quiets = l.watcher.quiets };
   ready : IsReady l.watcher;
-  talk : (address : List ℕ) (lines : List PlainLine) → Goes (LinkActs (links_tell g.L.Link.coming g.L.Link.heard g.L.Link.sent g.L.Link.counts)) (receive (viewer address l.fn.watcher lines) (ToReach l.time)) (receive (viewer address l.watcher lines) (ToReach l.time)) l.fn.link l.link;
+  talk : (address : List ℕ) (lines : List PlainLine) → Goes (LinkActs (links_tell g.L.Link)) (receive (viewer address l.fn.watcher lines) (ToReach l.time)) (receive (viewer address l.watcher lines) (ToReach l.time)) l.fn.link l.link;
 }

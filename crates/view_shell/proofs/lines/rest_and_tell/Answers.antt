@@ -6,14 +6,14 @@ use Rattle.view_shell.specs.ViewRun.{StopsPrinting}
 use Rattle.view_shell.proofs.Readiness.{viewer_at_rest}
 use Rattle.view_shell.proofs.lines.rest_and_tell.Goals as goal
 
-pub returns-in-Ok-clause-printed : goal.returns-in-Ok-clause-printed
-returns-in-Ok-clause-printed g c address lines =
-    let out = output_tells g.W.Sink.written g.W.Sink.faults g.W.Sink.wants in
+pub returns-clause-printed : goal.returns-clause-printed
+returns-clause-printed g c address lines =
+    let out = output_tells g.W.Sink in
     subst (λ (u : Viewer). OnOk c.finish.result (PrintsText out Well (shown_text u []) c.args.out.now c.finish.new.out))
-    (viewer_at_rest address lines c.args.watcher.now c.rest.new.watcher c.rest.ensures.kept c.in-Ok.ensures.rests) (c.finish.ensures.ok address lines)
+    (viewer_at_rest address lines c.args.watcher.now c.rest.new.watcher c.rest.ensures.kept c.in_ok-rest.ensures.rests) (c.finish.ensures.ok address lines)
 
-pub returns-in-Ok-clause-err : goal.returns-in-Ok-clause-err
-returns-in-Ok-clause-err g c address lines =
-    let out = output_tells g.W.Sink.written g.W.Sink.faults g.W.Sink.wants in
+pub returns-clause-err : goal.returns-clause-err
+returns-clause-err g c address lines =
+    let out = output_tells g.W.Sink in
     subst (λ (u : Viewer). IfErr c.finish.result (λ end. StopsPrinting out end (shown_text u []) c.args.out.now c.finish.new.out))
-    (viewer_at_rest address lines c.args.watcher.now c.rest.new.watcher c.rest.ensures.kept c.in-Ok.ensures.rests) (c.finish.ensures.err address lines)
+    (viewer_at_rest address lines c.args.watcher.now c.rest.new.watcher c.rest.ensures.kept c.in_ok-rest.ensures.rests) (c.finish.ensures.err address lines)

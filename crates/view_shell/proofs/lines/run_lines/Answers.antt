@@ -7,6 +7,7 @@ use Rattle.view_shell.specs.Phases.{Over}
 use Rattle.view_shell.specs.Viewers.{HasRoomFor}
 use Rattle.view_shell.proofs.LineTurns.{leave_goes, leave_stops, line_cuts, line_flows, line_stops}
 use Rattle.view_shell.proofs.Scripts.{drop_plain, few_plain, fits_here, room_now, room_on}
+use Rattle.view_shell.proofs.Going.{handed_on}
 use Rattle.view_shell.proofs.lines.run_lines.Goals as goal
 
 pub loop-place-init : goal.loop-place-init
@@ -20,57 +21,59 @@ run_line-requires-clause-room g c = room_now c.args.lines.now c.loop-place.place
 
 pub loop-place-preserved : goal.loop-place-preserved
 loop-place-preserved g c = record {
-  ready = c.in-Ok-GoesOn.ensures.ready;
+  ready = c.in_ok-run_line.ensures.ready;
   fit = (fits_here c.args.lines.now c.loop-place.place c.index-lines-place.result c.loop-place-test.true c.index-lines-place.is c.loop-place.invariant.fit).1;
-  room = room_on c.args.lines.now c.loop-place.place c.index-lines-place.result c.loop-place-test.true c.index-lines-place.is c.loop-place.watcher c.run_line.new.watcher c.in-Ok-GoesOn.ensures.count c.loop-place.invariant.room;
+  room = room_on c.args.lines.now c.loop-place.place c.index-lines-place.result c.loop-place-test.true c.index-lines-place.is c.loop-place.watcher c.run_line.new.watcher c.in_ok-run_line.ensures.count c.loop-place.invariant.room;
   talk = λ address.
-      let out = output_tells g.W.Sink.written g.W.Sink.faults g.W.Sink.wants in
-      let links = links_tell g.L.Link.coming g.L.Link.heard g.L.Link.sent g.L.Link.counts in
+      let out = output_tells g.W.Sink in
+      let links = links_tell g.L.Link in
       line_flows out links address c.loop-place.watcher c.args.lines.now c.loop-place.place _ _ _ _ (c.loop-place.invariant.talk address)
-      c.index-lines-place.result c.loop-place-test.true c.index-lines-place.is c.run_line.new.watcher c.in-Ok-GoesOn.field-0 (c.in-Ok-GoesOn.ensures.talk address _) flow.GoesOn c.in-Ok-GoesOn.field-0-is;
+      c.index-lines-place.result c.loop-place-test.true c.index-lines-place.is c.run_line.new.watcher c.in_ok-run_line.field-0 (c.in_ok-run_line.ensures.talk address _) flow.GoesOn c.in-GoesOn.is;
 }
 
-pub returns-in-Err-clause-talk : goal.returns-in-Err-clause-talk
-returns-in-Err-clause-talk g c address =
-    let out = output_tells g.W.Sink.written g.W.Sink.faults g.W.Sink.wants in
-    let links = links_tell g.L.Link.coming g.L.Link.heard g.L.Link.sent g.L.Link.counts in
-    line_stops out links address c.loop-place.watcher c.args.lines.now c.loop-place.place _ _ _ _ (c.loop-place.invariant.talk address)
-    c.index-lines-place.result c.loop-place-test.true c.index-lines-place.is c.in-Err.end (c.in-Err.ensures.talk address _)
+pub returns-in_err-run_line-clause-talk : goal.returns-in_err-run_line-clause-talk
+returns-in_err-run_line-clause-talk g c address =
+    let out = output_tells g.W.Sink in
+    let links = links_tell g.L.Link in
+    rw (handed_on c.from_residual.result c.in_err-run_line.field-0.0 c.from_residual.ensures.1)
+    (line_stops out links address c.loop-place.watcher c.args.lines.now c.loop-place.place _ _ _ _ (c.loop-place.invariant.talk address)
+    c.index-lines-place.result c.loop-place-test.true c.index-lines-place.is c.in_err-run_line.field-0.0 (c.in_err-run_line.ensures.talk address _))
 
-pub returns-in-Ok-Leaves-clause-talk : goal.returns-in-Ok-Leaves-clause-talk
-returns-in-Ok-Leaves-clause-talk g c address =
-    let out = output_tells g.W.Sink.written g.W.Sink.faults g.W.Sink.wants in
-    let links = links_tell g.L.Link.coming g.L.Link.heard g.L.Link.sent g.L.Link.counts in
+pub returns-in-Leaves-clause-talk : goal.returns-in-Leaves-clause-talk
+returns-in-Leaves-clause-talk g c address =
+    let out = output_tells g.W.Sink in
+    let links = links_tell g.L.Link in
     line_flows out links address c.loop-place.watcher c.args.lines.now c.loop-place.place _ _ _ _ (c.loop-place.invariant.talk address)
-    c.index-lines-place.result c.loop-place-test.true c.index-lines-place.is c.run_line.new.watcher c.in-Ok-Leaves.field-0 (c.in-Ok-Leaves.ensures.talk address _) flow.Leaves c.in-Ok-Leaves.field-0-is
+    c.index-lines-place.result c.loop-place-test.true c.index-lines-place.is c.run_line.new.watcher c.in_ok-run_line.field-0 (c.in_ok-run_line.ensures.talk address _) flow.Leaves c.in-Leaves.is
 
-pub returns-in-Ok-Cuts-clause-talk : goal.returns-in-Ok-Cuts-clause-talk
-returns-in-Ok-Cuts-clause-talk g c address =
-    let out = output_tells g.W.Sink.written g.W.Sink.faults g.W.Sink.wants in
-    let links = links_tell g.L.Link.coming g.L.Link.heard g.L.Link.sent g.L.Link.counts in
+pub returns-in-Cuts-clause-talk : goal.returns-in-Cuts-clause-talk
+returns-in-Cuts-clause-talk g c address =
+    let out = output_tells g.W.Sink in
+    let links = links_tell g.L.Link in
     line_cuts out links address c.loop-place.watcher c.args.lines.now c.loop-place.place _ _ _ _ (c.loop-place.invariant.talk address)
-    c.index-lines-place.result c.loop-place-test.true c.index-lines-place.is c.run_line.new.watcher c.in-Ok-Cuts.field-0 (c.in-Ok-Cuts.ensures.talk address _) c.in-Ok-Cuts.field-0-is
+    c.index-lines-place.result c.loop-place-test.true c.index-lines-place.is c.run_line.new.watcher c.in_ok-run_line.field-0 (c.in_ok-run_line.ensures.talk address _) c.in-Cuts.is
 
-pub returns-in-Ok-Cuts-clause-room : goal.returns-in-Ok-Cuts-clause-room
-returns-in-Ok-Cuts-clause-room g c =
+pub returns-in-Cuts-clause-room : goal.returns-in-Cuts-clause-room
+returns-in-Cuts-clause-room g c =
     let all = c.args.lines.now in
     let i = c.loop-place.place in
     let within : i + 1 ≤ length all = omega (arith, c.loop-place-test.true) in (
       few_plain all (i + 1) within,
       subst (λ (ls : List PlainLine). HasRoomFor c.run_line.new.watcher ls) (sym (drop_plain all (i + 1) within))
-          (room_on all i c.index-lines-place.result c.loop-place-test.true c.index-lines-place.is c.loop-place.watcher c.run_line.new.watcher c.in-Ok-Cuts.ensures.count c.loop-place.invariant.room),
+          (room_on all i c.index-lines-place.result c.loop-place-test.true c.index-lines-place.is c.loop-place.watcher c.run_line.new.watcher c.in_ok-run_line.ensures.count c.loop-place.invariant.room),
     )
 
-pub returns-in-Ok-clause-talk : goal.returns-in-Ok-clause-talk
-returns-in-Ok-clause-talk g c address =
-    let out = output_tells g.W.Sink.written g.W.Sink.faults g.W.Sink.wants in
-    let links = links_tell g.L.Link.coming g.L.Link.heard g.L.Link.sent g.L.Link.counts in
+pub returns-clause-talk : goal.returns-clause-talk
+returns-clause-talk g c address =
+    let out = output_tells g.W.Sink in
+    let links = links_tell g.L.Link in
     leave_goes out links address c.loop-place.watcher c.args.lines.now c.loop-place.place _ _ _ _ (c.loop-place.invariant.talk address)
-    c.loop-place-test.false (Over ending.Done) (c.in-Ok.ensures.talk address [])
+    c.loop-place-test.false (Over ending.Done) (c.in_ok-leave.ensures.talk address [])
 
-pub returns-in-Err-leave-clause-talk : goal.returns-in-Err-leave-clause-talk
-returns-in-Err-leave-clause-talk g c address =
-    let out = output_tells g.W.Sink.written g.W.Sink.faults g.W.Sink.wants in
-    let links = links_tell g.L.Link.coming g.L.Link.heard g.L.Link.sent g.L.Link.counts in
-    leave_stops out links address c.loop-place.watcher c.args.lines.now c.loop-place.place _ _ _ _ (c.loop-place.invariant.talk address)
-    c.loop-place-test.false c.in-Err-leave.end (c.in-Err-leave.ensures.talk address [])
+pub returns-in_err-leave-clause-talk : goal.returns-in_err-leave-clause-talk
+returns-in_err-leave-clause-talk g c address =
+    let out = output_tells g.W.Sink in
+    let links = links_tell g.L.Link in
+    rw (handed_on c.from_residual-in_err-leave.result c.in_err-leave.field-0.0 c.from_residual-in_err-leave.ensures.1)
+    (leave_stops out links address c.loop-place.watcher c.args.lines.now c.loop-place.place _ _ _ _ (c.loop-place.invariant.talk address)
+    c.loop-place-test.false c.in_err-leave.field-0.0 (c.in_err-leave.ensures.talk address []))

@@ -1,5 +1,5 @@
 use Rattle.std.proofs.Common.{◌≡◌, ◌≤◌, ◌<◌, arith}
-use Rattle.run_steps.specs.Outside.{Acts, links_tell, output_tells, window, window_tells}
+use Rattle.run_steps.specs.Outside.{Acts, links_tell, output_tells, link_side, link_side_tells}
 use Rattle.view_shell.specs.Phases.{Receiving, ToSee, finish, vote_on}
 use Rattle.view_shell.specs.ViewText.{vote_missed_line}
 use Rattle.view_shell.specs.Viewers.{viewer}
@@ -13,24 +13,24 @@ use Rattle.view_shell.proofs.lines.vote_on.Goals as goal
 
 pub returns-then-at-seen-clause-talk : goal.returns-then-at-seen-clause-talk
 returns-then-at-seen-clause-talk g c address lines =
-    let out = output_tells g.W.Sink.written g.W.Sink.faults g.W.Sink.wants in
-    let links = links_tell g.L.Link.coming g.L.Link.heard g.L.Link.sent g.L.Link.counts in
+    let out = output_tells g.W.Sink in
+    let links = links_tell g.L.Link in
     let old = c.args.watcher.now in
     let v = viewer address old lines in
     let u = viewer address c.miss_vote.new.watcher lines in
     let late : c.args.at ≤ v.replica.seen = omega (arith, c.if-at-seen.true, c.seen.ensures.seen) in
-    done_from (Acts (window_tells out links)) (vote_on v c.args.at) (finish v (vote_missed_line v.replica.seen)) u lines (window c.args.out.now c.args.link.now) (window c.miss_vote.new.out c.args.link.now) c.miss_vote.result
+    done_from (Acts (link_side_tells out links)) (vote_on v c.args.at) (finish v (vote_missed_line v.replica.seen)) u lines (link_side c.args.out.now c.args.link.now) (link_side c.miss_vote.new.out c.args.link.now) c.miss_vote.result
     (missed v c.args.at late)
     (done_printing out links c.args.link.now c.args.out.now c.miss_vote.new.out v u (vote_missed_line v.replica.seen) c.miss_vote.result
     (viewer_finished address lines old c.miss_vote.new.watcher c.miss_vote.result c.miss_vote.ensures.kept c.miss_vote.ensures.ok) (c.miss_vote.ensures.printed address lines) (c.miss_vote.ensures.err address lines))
 
 pub returns-clause-talk : goal.returns-clause-talk
 returns-clause-talk g c address lines =
-    let out = output_tells g.W.Sink.written g.W.Sink.faults g.W.Sink.wants in
-    let links = links_tell g.L.Link.coming g.L.Link.heard g.L.Link.sent g.L.Link.counts in
+    let out = output_tells g.W.Sink in
+    let links = links_tell g.L.Link in
     let v = viewer address c.args.watcher.now lines in
     let early : v.replica.seen < c.args.at = omega (arith, c.if-at-seen.false, c.seen.ensures.seen) in
-    done_from (Acts (window_tells out links)) (vote_on v c.args.at) (Receiving v (ToSee c.args.at)) (viewer address c.await_vote.new.watcher lines) lines (window c.args.out.now c.args.link.now) (window c.await_vote.new.out c.await_vote.new.link) c.await_vote.result
+    done_from (Acts (link_side_tells out links)) (vote_on v c.args.at) (Receiving v (ToSee c.args.at)) (viewer address c.await_vote.new.watcher lines) lines (link_side c.args.out.now c.args.link.now) (link_side c.await_vote.new.out c.await_vote.new.link) c.await_vote.result
     (not_missed v c.args.at early) (c.await_vote.ensures.talk address lines)
 
 pub returns-then-at-seen-clause-count : goal.returns-then-at-seen-clause-count

@@ -1,5 +1,6 @@
 use Rattle.view_shell.proofs.Readiness.{ready_published}
+use Rattle.view_shell.proofs.Voting.{if_well}
 use Rattle.view_shell.proofs.publishing.publish.Goals as goal
 
-pub returns-in-Ok-clause-ready : goal.returns-in-Ok-clause-ready
-returns-in-Ok-clause-ready c = ready_published c.args.watcher.now c.put_event.new.watcher c.put_event.ensures.kept c.put_event.ensures.knows c.requires.ready
+pub returns-clause-ready : goal.returns-clause-ready
+returns-clause-ready c = if_well c.put_event.result (ready_published c.args.watcher.now c.put_event.new.watcher c.put_event.ensures.kept c.put_event.ensures.knows c.requires.ready)

@@ -12,6 +12,6 @@ invariant-loop-frame g l = record {
   kept : l.watcher ≡ record l.fn.watcher { receives = l.watcher.receives };
   ready : IsReady l.fn.watcher → IsReady l.watcher;
   talk : (v : Viewer) (task : Task) → v.receives ≡ l.fn.watcher.receives → AllByRecursion (IsReadAsWorld v) l.frames
-      → Goes (LinkActs (links_tell g.L.Link.coming g.L.Link.heard g.L.Link.sent g.L.Link.counts))
+      → Goes (LinkActs (links_tell g.L.Link))
       (send_all v l.frames task) (send_all (record v { receives = l.watcher.receives }) (drop l.frame-index l.frames) task) l.fn.link l.link;
 }

@@ -25,16 +25,16 @@ loop-init g c =
 
 pub returns-in-Err-Failed : goal.returns-in-Err-Failed
 returns-in-Err-Failed g c =
-    let out = output_tells g.W.Sink.written g.W.Sink.faults g.W.Sink.wants in
-    let net = net_tells g.N.Net.coming g.N.Net.over g.N.Net.asked g.N.Net.faults g.N.Net.lent g.N.Net.link_counts in
-    let links = links_tell g.N.Conn.Link.coming g.N.Conn.Link.heard g.N.Conn.Link.sent g.N.Conn.Link.counts in
+    let out = output_tells g.W.Sink in
+    let net = net_tells g.N.Net in
+    let links = links_tell g.N.Conn.Link in
     record { ran = no_link out net links c.args.visit.now.address c.args.visit.now.script c.args.watcher.now c.loop.watcher c.lines-lines.result.now c.loop.next c.loop.how c.args.out.now c.loop.out c.args.net.now c.loop.net c.connect.new.net c.loop.invariant.talk c.connect.result c.connect.ensures c.in-Err-Failed.field-0 fault.Failed c.in-Err-Failed.is c.in-Err-Failed.field-0-is }
 
 pub returns-in-Err-WantOfMemory : goal.returns-in-Err-WantOfMemory
 returns-in-Err-WantOfMemory g c =
-    let out = output_tells g.W.Sink.written g.W.Sink.faults g.W.Sink.wants in
-    let net = net_tells g.N.Net.coming g.N.Net.over g.N.Net.asked g.N.Net.faults g.N.Net.lent g.N.Net.link_counts in
-    let links = links_tell g.N.Conn.Link.coming g.N.Conn.Link.heard g.N.Conn.Link.sent g.N.Conn.Link.counts in
+    let out = output_tells g.W.Sink in
+    let net = net_tells g.N.Net in
+    let links = links_tell g.N.Conn.Link in
     record { ran = no_link out net links c.args.visit.now.address c.args.visit.now.script c.args.watcher.now c.loop.watcher c.lines-lines.result.now c.loop.next c.loop.how c.args.out.now c.loop.out c.args.net.now c.loop.net c.connect.new.net c.loop.invariant.talk c.connect.result c.connect.ensures c.in-Err-WantOfMemory.field-0 fault.WantOfMemory c.in-Err-WantOfMemory.is c.in-Err-WantOfMemory.field-0-is }
 
 pub attend-attended-requires-clause-fit : goal.attend-attended-requires-clause-fit
@@ -45,9 +45,9 @@ attend-attended-requires-clause-room g c = subst (λ (ls : List ViewLine). HasRo
 
 pub loop-preserved : goal.loop-preserved
 loop-preserved g c =
-    let out = output_tells g.W.Sink.written g.W.Sink.faults g.W.Sink.wants in
-    let net = net_tells g.N.Net.coming g.N.Net.over g.N.Net.asked g.N.Net.faults g.N.Net.lent g.N.Net.link_counts in
-    let links = links_tell g.N.Conn.Link.coming g.N.Conn.Link.heard g.N.Conn.Link.sent g.N.Conn.Link.counts in
+    let out = output_tells g.W.Sink in
+    let net = net_tells g.N.Net in
+    let links = links_tell g.N.Conn.Link in
     let all = c.lines-lines.result.now in
     let next = c.loop.next in
     let count = c.in-Again.count in
@@ -66,9 +66,9 @@ loop-preserved g c =
 
 pub returns-in-Done : goal.returns-in-Done
 returns-in-Done g c =
-    let out = output_tells g.W.Sink.written g.W.Sink.faults g.W.Sink.wants in
-    let net = net_tells g.N.Net.coming g.N.Net.over g.N.Net.asked g.N.Net.faults g.N.Net.lent g.N.Net.link_counts in
-    let links = links_tell g.N.Conn.Link.coming g.N.Conn.Link.heard g.N.Conn.Link.sent g.N.Conn.Link.counts in
+    let out = output_tells g.W.Sink in
+    let net = net_tells g.N.Net in
+    let links = links_tell g.N.Conn.Link in
     record {
       ran = attended_done out net links c.args.visit.now.address c.args.visit.now.script c.args.watcher.now c.loop.watcher c.lines-lines.result.now c.loop.next c.loop.how c.args.out.now c.loop.out c.args.net.now c.loop.net c.connect.new.net c.loop.invariant.talk c.connect.result c.connect.ensures
           c.in-Ok.link c.attend-attended.new.link c.in-Ok.is c.attend-attended.new.watcher c.attend-attended.new.out c.back.new.self (record { lent = c.back.ensures.lent; over = c.back.ensures.over; counts = c.back.ensures.counts; coming = c.back.ensures.coming; asked = c.back.ensures.asked; faults = c.back.ensures.faults }) c.attend-attended.result (c.attend-attended.ensures.talk c.args.visit.now.address) c.in-Ok-attended.departure c.in-Ok-attended.is c.in-Done.is;
@@ -76,9 +76,9 @@ returns-in-Done g c =
 
 pub returns-in-Err : goal.returns-in-Err
 returns-in-Err g c =
-    let out = output_tells g.W.Sink.written g.W.Sink.faults g.W.Sink.wants in
-    let net = net_tells g.N.Net.coming g.N.Net.over g.N.Net.asked g.N.Net.faults g.N.Net.lent g.N.Net.link_counts in
-    let links = links_tell g.N.Conn.Link.coming g.N.Conn.Link.heard g.N.Conn.Link.sent g.N.Conn.Link.counts in
+    let out = output_tells g.W.Sink in
+    let net = net_tells g.N.Net in
+    let links = links_tell g.N.Conn.Link in
     record {
       ran = attended_stops out net links c.args.visit.now.address c.args.visit.now.script c.args.watcher.now c.loop.watcher c.lines-lines.result.now c.loop.next c.loop.how c.args.out.now c.loop.out c.args.net.now c.loop.net c.connect.new.net c.loop.invariant.talk c.connect.result c.connect.ensures
           c.in-Ok.link c.attend-attended.new.link c.in-Ok.is c.attend-attended.new.watcher c.attend-attended.new.out c.back.new.self (record { lent = c.back.ensures.lent; over = c.back.ensures.over; counts = c.back.ensures.counts; coming = c.back.ensures.coming; asked = c.back.ensures.asked; faults = c.back.ensures.faults }) c.attend-attended.result (c.attend-attended.ensures.talk c.args.visit.now.address) c.in-Err.end c.in-Err.is;

@@ -1,7 +1,7 @@
 use Rattle.std.proofs.Common.{◌≤◌, None, drop, length}
 use Rattle.std.specs.List.{AllByRecursion}
 use Rattle.replica_plain.specs.declared.how.How.TheVariants.{Fresh}
-use Rattle.run_steps.specs.Outside.{Acts, booth, booth_tells, links_tell, net_tells, output_tells}
+use Rattle.run_steps.specs.Outside.{Acts, net_side, net_side_tells, links_tell, net_tells, output_tells}
 use Rattle.view_script.specs.PlainLine.{LineFits, plain_lines}
 use Rattle.view_shell.specs.Phases.{Connecting}
 use Rattle.view_shell.specs.Viewers.{HasRoomFor, KnowsItself, viewer}
@@ -15,9 +15,9 @@ invariant-loop g l = record {
   within : l.next ≤ length l.lines;
   fit : AllByRecursion LineFits (plain_lines (drop l.next l.lines));
   room : HasRoomFor l.watcher (plain_lines (drop l.next l.lines));
-  talk : Goes (Acts (booth_tells (output_tells g.W.Sink.written g.W.Sink.faults g.W.Sink.wants) (net_tells g.N.Net.coming g.N.Net.over g.N.Net.asked g.N.Net.faults g.N.Net.lent g.N.Net.link_counts)
-      (links_tell g.N.Conn.Link.coming g.N.Conn.Link.heard g.N.Conn.Link.sent g.N.Conn.Link.counts)))
+  talk : Goes (Acts (net_side_tells (output_tells g.W.Sink) (net_tells g.N.Net)
+      (links_tell g.N.Conn.Link)))
       (Connecting (viewer l.visit.address l.fn.watcher (plain_lines l.visit.script)) Fresh)
       (Connecting (viewer l.visit.address l.watcher (plain_lines (drop l.next l.lines))) l.how)
-      (booth l.fn.out l.fn.net None) (booth l.out l.net None);
+      (net_side l.fn.out l.fn.net None) (net_side l.out l.net None);
 }

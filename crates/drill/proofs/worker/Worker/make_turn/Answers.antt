@@ -9,26 +9,26 @@ use Rattle.drill.proofs.worker.Worker.make_turn.Goals as goal
 
 pub send-requires-clause-unsent : goal.send-requires-clause-unsent
 send-requires-clause-unsent g c =
-    let within : c.args.turn - 1 + 1 ≤ c.args.hall.now.size.events = omega (arith, c.requires.turn) in
+    let within : c.args.turn - 1 + 1 ≤ c.args.service.now.size.events = omega (arith, c.requires.turn) in
     (published _ _ _ c.args.self.now c.publish.new.self c.args.cursor.now _ c.requires.ready within c.in_ok-publish.ensures.published).1
 
 pub returns-in_default-clause-made : goal.returns-in_default-clause-made
 returns-in_default-clause-made g c =
-    let within : c.args.turn - 1 + 1 ≤ c.args.hall.now.size.events = omega (arith, c.requires.turn) in
+    let within : c.args.turn - 1 + 1 ≤ c.args.service.now.size.events = omega (arith, c.requires.turn) in
     sent_none _ _ _ c.args.self.now c.publish.new.self c.send.new.self c.args.cursor.now _ c.requires.size c.requires.ready within c.in_ok-publish.ensures.published c.in_ok-done.ensures.source
     c.in_ok-done.ensures.worker (subst (HasSentIt _ _ _ _ _ _) c.in_default.is c.in_ok-done.ensures.sent)
 
 pub settle-requires-clause-owed : goal.settle-requires-clause-owed
 settle-requires-clause-owed g c =
-    let within : c.args.turn - 1 + 1 ≤ c.args.hall.now.size.events = omega (arith, c.requires.turn) in
+    let within : c.args.turn - 1 + 1 ≤ c.args.service.now.size.events = omega (arith, c.requires.turn) in
     let next : c.args.turn - 1 + 1 ≡ c.args.turn = omega (arith, c.requires.turn) in
     let sent = sent_some _ _ _ c.args.self.now c.publish.new.self c.send.new.self c.args.cursor.now _ c.requires.size c.requires.ready within c.in_ok-publish.ensures.published c.in_ok-done.ensures.source
     c.in_ok-done.ensures.worker c.in-Some.done (subst (HasSentIt _ _ _ _ _ _) c.in-Some.is c.in_ok-done.ensures.sent) in
-    (sent.0, subst (λ (number : ℕ). IsOwed (g.C.Clock.gives c.args.hall.now.clock.now) c.args.hall.now.size c.args.hall.now.shared.now c.send.new.self c.args.cursor.now number sent.0) next sent.1)
+    (sent.0, subst (λ (number : ℕ). IsOwed (g.C.Clock.gives c.args.service.now.clock.now) c.args.service.now.size c.args.service.now.shared.now c.send.new.self c.args.cursor.now number sent.0) next sent.1)
 
 pub settle-requires-clause-done : goal.settle-requires-clause-done
 settle-requires-clause-done g c =
-    let within : c.args.turn - 1 + 1 ≤ c.args.hall.now.size.events = omega (arith, c.requires.turn) in
+    let within : c.args.turn - 1 + 1 ≤ c.args.service.now.size.events = omega (arith, c.requires.turn) in
     let next : c.args.turn - 1 + 1 ≡ c.args.turn = omega (arith, c.requires.turn) in
     let sent = sent_some _ _ _ c.args.self.now c.publish.new.self c.send.new.self c.args.cursor.now _ c.requires.size c.requires.ready within c.in_ok-publish.ensures.published c.in_ok-done.ensures.source
     c.in_ok-done.ensures.worker c.in-Some.done (subst (HasSentIt _ _ _ _ _ _) c.in-Some.is c.in_ok-done.ensures.sent) in

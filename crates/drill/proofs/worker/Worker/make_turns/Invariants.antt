@@ -4,4 +4,4 @@ use Rattle.drill.proofs.worker.Worker.make_turns.Given as goal
 
 abbrev pub invariant-loop-turn : goal.invariant-loop-turn
 invariant-loop-turn g l =
-    IsWorkerReady (g.C.Clock.gives l.hall.clock.now) l.hall.size l.hall.shared.now l.self l.cursor (l.turn - 1) × (l.self.view ≡ l.fn.self.view) × (l.turn ≤ l.hall.size.events + 1)
+    IsWorkerReady (g.C.Clock.gives l.service.clock.now) l.service.size l.service.shared.now l.self l.cursor (l.turn - 1) × (l.self.view ≡ l.fn.self.view) × (l.turn ≤ l.service.size.events + 1)

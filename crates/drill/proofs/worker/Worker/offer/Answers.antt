@@ -10,9 +10,9 @@ use Rattle.drill.proofs.worker.Worker.offer.Goals as goal
 pub offer-requires-clause-allowed : goal.offer-requires-clause-allowed
 offer-requires-clause-allowed g c =
     let same = c.equal_snapshots.ensures.replays c.args.self.now.replica (play c.args.self.now.pass.seen).log c.requires.works.program c.requires.works.follows c.requires.rests in
-    let trust = c.args.hall.now.shared.now.trust in
-    subst (λ (o : PlainSession). let s = play_from o c.args.self.now.pass.seen in AllowsReplay (founding_of (arc_value trust.program)) c.args.hall.now.shared.now.id.0 s.log s.horizon c.time.result c.in-Ok.bytes) (sym c.requires.worker.opening)
-    (may_offer c.args.hall.now.shared.now _ c.args.self.now.replica c.args.cursor.now c.time.result c.in-Ok.bytes c.requires.worker.program c.requires.worker.id c.requires.works same c.requires.rests
+    let trust = c.args.service.now.shared.now.trust in
+    subst (λ (o : PlainSession). let s = play_from o c.args.self.now.pass.seen in AllowsReplay (founding_of (arc_value trust.program)) c.args.service.now.shared.now.id.0 s.log s.horizon c.time.result c.in-Ok.bytes) (sym c.requires.worker.opening)
+    (may_offer c.args.service.now.shared.now _ c.args.self.now.replica c.args.cursor.now c.time.result c.in-Ok.bytes c.requires.worker.program c.requires.worker.id c.requires.works same c.requires.rests
     c.in-Ok.ensures.3 c.time.ensures.time)
 
 pub returns-clause-offered : goal.returns-clause-offered

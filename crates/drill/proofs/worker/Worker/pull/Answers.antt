@@ -40,7 +40,7 @@ returns-clause-more g c =
     let frames = c.as_slice.ensures ∙ c.in_ok-frames.ensures.frames in
     let taken = rw same at c.in_ok-take_all.ensures in
     let keeps = pull_keeps _ _ _ _ _ _ c.args.self.now.replica c.args.cursor.now c.in_ok-batch.batch asked c.requires.works laws c.take_all.new.replica _ frames taken in
-    has_taken_more _ c.args.hall.now.size c.args.hall.now.shared.now c.args.self.now (record c.ask.new.self { replica = c.take_all.new.replica }) c.args.cursor.now c.next.new.self c.in_ok-batch.batch
+    has_taken_more _ c.args.service.now.size c.args.service.now.shared.now c.args.self.now (record c.ask.new.self { replica = c.take_all.new.replica }) c.args.cursor.now c.next.new.self c.in_ok-batch.batch
     (pull_passes _ _ _ _ _ _ c.args.self.now.replica c.args.cursor.now c.in_ok-batch.batch asked c.requires.works laws)
     (pull_works _ _ _ _ _ _ c.args.self.now.replica c.args.cursor.now c.in_ok-batch.batch asked c.requires.works laws c.take_all.new.replica c.next.new.self _ frames c.in_ok-frames.ensures.cursor taken)
     keeps c.in_ok-frames.ensures.cursor

@@ -23,4 +23,4 @@ returns-clause-ended g c =
     let asked = c.in_ok-leave.ensures.asked in
     let same = synced_is c.in_ok-course.course c.ne.result (λ is. rw is at c.ne.ensures) (λ is. rw is at c.ne.ensures) (λ is. rw is at c.ne.ensures) in
     let ended = left _ _ _ c.make_turns.new.self c.leave.new.self c.make_turns.new.cursor c.in_ok-course.course asked.0 asked.1 c.in_ok-course.ensures.made c.in_ok-leave.ensures.pass c.in_ok-leave.ensures.worker asked.2 in
-    subst (λ (synced : Bool). HasEnded (g.C.Clock.gives c.args.hall.now.clock.now) c.args.hall.now.size c.args.hall.now.shared.now (record { worker = c.leave.new.self; is_synced = synced })) (sym same) ended
+    subst (λ (synced : Bool). HasEnded (g.C.Clock.gives c.args.service.now.clock.now) c.args.service.now.size c.args.service.now.shared.now (record { worker = c.leave.new.self; is_synced = synced })) (sym same) ended

@@ -1,4 +1,5 @@
-use Rattle.std.proofs.Common.{refl, sym, ap, ◌∙◌}
+use Rattle.std.proofs.Common.{true, None, refl, sym, ap, ◌∙◌}
+use Rattle.replica.specs.View.{ReplicaView}
 use Rattle.replica_plain.specs.declared.how.How.TheVariants.{Fresh}
 use Rattle.view_shell.specs.declared.watcher.Watcher.{Watcher}
 use Rattle.view_shell.specs.Phases.{world_text}
@@ -19,3 +20,20 @@ returns-in-Ok-clause-rests c address = c.in-Ok.ensures.rests address (left c.arg
 
 pub returns-in-Ok-clause-text : goal.returns-in-Ok-clause-text
 returns-in-Ok-clause-text c address = c.in-Ok.ensures.text address (left c.args.self.now) ∙ ap world_text (c.in-Ok.ensures.rests address (left c.args.self.now))
+
+pub returns-then-self-clause-err : goal.returns-then-self-clause-err
+returns-then-self-clause-err c =
+    let s = c.args.self.now in
+    let q = c.lose.new.self.queue in
+    c.lose.ensures.kept
+    ∙ ap (λ (r : ReplicaView). record s { watcher = record s.watcher { replica = r }; queue = q; place = at.Unlinked Fresh; joined = None; lost = true })
+    (sym (ap (λ (v : LiveView). v.watcher.replica) c.lose.ensures.kept))
+
+pub returns-in-Err-clause-err : goal.returns-in-Err-clause-err
+returns-in-Err-clause-err c =
+    let s = c.args.self.now in
+    let q = c.lose-in-Err.new.self.queue in
+    c.lose-in-Err.ensures.kept
+    ∙ ap (λ (w : Watcher). record s { watcher = w; queue = q; place = at.Unlinked Fresh; joined = None; lost = true }) c.rested_text.ensures.kept
+    ∙ ap (λ (r : ReplicaView). record s { watcher = record s.watcher { replica = r }; queue = q; place = at.Unlinked Fresh; joined = None; lost = true })
+    (sym (ap (λ (v : LiveView). v.watcher.replica) c.lose-in-Err.ensures.kept))

@@ -9,4 +9,4 @@ pub put_down-requires : goal.put_down-requires
 put_down-requires c =
     let replied = ap (λ outcome. next_frames c.args.cursor outcome.reply) c.in_ok-reply.ensures.ok in
     subst (AllByRecursion IsTimely) (sym (c.into_vec.ensures ∙ c.in_ok-frames.ensures.frames ∙ replied))
-    (pulled_timely c.args.session.now.plain c.args.cursor c.after.result most_pulled c.requires)
+    (pulled_timely c.args.session.now.plain c.args.cursor c.after.result most_pulled c.requires.sound)

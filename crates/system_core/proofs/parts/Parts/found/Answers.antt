@@ -1,7 +1,7 @@
 use Rattle.std.proofs.Common.{refl, arith}
 use Rattle.std.specs.Arc.{arc_value}
 use Rattle.std.proofs.lemmas.Result.{on_ok_weaker}
-use Rattle.system_plain.proofs.UnmadeRows.{found_again}
+use Rattle.system_plain.proofs.StepRows.{found_again}
 use Rattle.system_core.specs.declared.parts.Parts.{Parts}
 use Rattle.system_core.specs.Parts.{part_worlds, plain_client, plain_system}
 use Rattle.system_core.proofs.PartJoins.{found-made}

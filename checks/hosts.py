@@ -1,0 +1,222 @@
+"""`host` over sockets: several sessions in one process, each as if it were alone."""
+import contextlib
+import re
+import time
+
+import websocket
+from case import Case, expect, expect_that
+from reference import croquet, log_text, read_stored
+from reflector import EMPTY, LEAVE, Reflector, View, hold_port, join_frame, leave_all, send_frame
+from websocket import BINARY, TEXT, frame
+
+LINK = re.compile(r"connection (\d+) session (\d+|none) (.+)")
+SESSION = re.compile(r"session (\d+) entries (\d+) time (\d+)")
+MASK = b"\x37\xfa\x21\x3d"
+SILENCE = 0.05
+
+
+class Session:
+    """A session of a host, for views by hand."""
+
+    def __init__(self, host, name, source):
+        self.host, self.ident, self.views = host, croquet.session_id(name, source), []
+
+    def open(self, receive_buffer=None):
+        return self.host.open(receive_buffer)
+
+    def view(self, view):
+        self.views.append(View(self, view, "whole", 0, None))
+        return self.views[-1]
+
+
+class Host(Reflector):
+    """A run of `host` of sessions with these names, all of one program."""
+
+    def __init__(self, program, names, connections, source=EMPTY, port=None):
+        self.holder = None if port else hold_port()
+        self.port = port or self.holder.getsockname()[1]
+        self.begun, self.address = time.monotonic(), f"127.0.0.1:{self.port}"
+        config = "".join(f"session {name} p\n" for name in names).encode()
+        self.run = program.start(
+            ["host", "c", self.address, "--connections", str(connections), "--logs", "l"],
+            {"c": config, "p": source}, f"listening at {self.address}\n".encode())
+        self.wires = []
+        self.sessions = [Session(self, name.encode(), source) for name in names]
+
+
+@contextlib.contextmanager
+def hosting(program, names, connections):
+    """A host that is killed where the check does not come to its end."""
+    host = Host(program, names, connections)
+    try:
+        yield host
+    finally:
+        if host.run.process.returncode is None:
+            host.run.kill()
+            host.end()
+
+
+def expect_hosted(run, links, sessions):
+    """How the links ended, each with its session, in any order of acceptance, and how many entries each session has."""
+    expect(0, run.status)
+    lines = run.text.decode().splitlines()
+    told = [LINK.fullmatch(line) for line in lines[:len(links)]]
+    expect_that(all(told), "a line for each link", lines)
+    expect([str(number) for number in range(len(links))], [match[1] for match in told])
+    expect(sorted(links), sorted((match[2], match[3]) for match in told))
+    rows = [SESSION.fullmatch(line) for line in lines[len(links):]]
+    expect_that(len(rows) == len(sessions) and all(rows), "a line for each session", lines)
+    expect([(str(number), str(entries)) for number, entries in enumerate(sessions, 1)],
+           [(match[1], match[2]) for match in rows])
+    expect({f"l{number}" for number in range(1, len(sessions) + 1)}, set(run.files))
+    logs = [read_stored(run.files[f"l{number}"]) for number in range(1, len(sessions) + 1)]
+    expect([match[3] for match in rows], [str(log.horizon) for log in logs])
+    return logs
+
+
+def expect_entries(log, wanted):
+    """The entries of a log, without their times."""
+    expect(wanted, log_text(log.log))
+
+
+def say_first(host, content, opcode=BINARY):
+    """A link whose first message is this."""
+    wire = host.connect()
+    websocket.ask(wire)
+    wire.say(frame(opcode, content, MASK))
+    return wire
+
+
+# ---------------------------------------------------------------- where a link goes
+
+
+def two_sessions_have_their_own_links(program):
+    with hosting(program, ["a", "b"], 2) as host:
+        first, second = host.sessions
+        of_second, of_first = second.view(7), first.view(7)
+        of_second.joined()
+        of_first.joined()
+        expect(2, of_second.done(b"hi")[0])
+        leave_all(of_second, of_first)
+        run = host.end()
+    logs = expect_hosted(run, [("2", "left"), ("1", "left")], [2, 3])
+    expect_entries(logs[0], "1:join:7 2:exit:7")
+    expect_entries(logs[1], "1:join:7 2:event:7:1:6869 3:exit:7")
+
+
+def a_session_that_is_not_listed_is_refused_by_the_first(program):
+    with hosting(program, ["a", "b"], 1) as host:
+        wire = say_first(host, join_frame(croquet.session_id(b"c", EMPTY), 7))
+        wire.read_all()
+        wire.close()
+        run = host.end()
+    expect_hosted(run, [("1", "refused 12")], [0, 0])
+
+
+FIRST_FRAMES = {
+    "a send": (send_frame(1, b"hi"), "refused 14"),
+    "no frame of a client": (b"\x07", "refused 13"),
+    "an empty message": (b"", "refused 13"),
+    "half a join": (join_frame(bytes(32), 7)[:20], "refused 13"),
+}
+
+
+def first_frame(content, word):
+    def check(program):
+        with hosting(program, ["a", "b"], 1) as host:
+            wire = say_first(host, content)
+            wire.read_all()
+            wire.close()
+            run = host.end()
+        expect_hosted(run, [("1", word)], [0, 0])
+
+    return check
+
+
+def a_link_without_a_frame_has_no_session(program):
+    with hosting(program, ["a", "b"], 3) as host:
+        silent = host.connect()
+        websocket.ask(silent)
+        silent.stop_sending()
+        silent.read_all()
+        half = host.connect()
+        half.say(b"GET / HT")
+        time.sleep(SILENCE)
+        half.stop_sending()
+        half.read_all()
+        text = say_first(host, b"hi", TEXT)
+        text.read_all()
+        run = host.end()
+    expect_hosted(run, [("none", "link-end"), ("none", "link-end"), ("none", "link-fault")], [0, 0])
+
+
+# ---------------------------------------------------------------- one beside the others
+
+
+def flood(view):
+    """A view sends many events at a time, before it reads what it is told."""
+    for _ in range(8):
+        for _ in range(50):
+            view.send(b"x" * 512)
+        for _ in range(50):
+            view.until("done")
+
+
+def sessions_do_not_notice_one_another(program):
+    """Eight sessions of eight links: one session is flooded, and some links say what is none. Of the other sessions each has just its own events, in the order of each view."""
+    names = [f"s{number}" for number in range(8)]
+    odd = [b"GET / HT", None, b""]
+    with hosting(program, names, 8 * 7 + len(odd)) as host:
+        silent = host.connect()
+        websocket.ask(silent)
+        half = host.connect()
+        half.say(odd[0])
+        text = say_first(host, b"hi", TEXT)
+        views = [[session.view(view) for view in range(1, 8)] for session in host.sessions]
+        for view in [view for of in views for view in of]:
+            view.joined()
+        flood(views[0][0])
+        for turn in range(1, 4):
+            for of in views[1:]:
+                for number, view in enumerate(of):
+                    view.done(f"{turn} {number}".encode())
+        for view in [view for of in views for view in of]:
+            view.say(LEAVE)
+            view.until("close")
+        for wire in (silent, half, text):
+            wire.close()
+        run = host.end()
+    logs = expect_hosted(run, [(str(number), "left") for number in range(1, 9) for _ in range(7)]
+                         + [("none", "link-end"), ("none", "link-end"), ("none", "link-fault")],
+                         [7 + 400 + 7] + [7 + 21 + 7] * 7)
+    for log in logs[1:]:
+        events = [(entry.view, entry.payload) for entry in log.log if entry.kind == "event"]
+        expect(sorted((number + 1, f"{turn} {number}".encode()) for turn in range(1, 4) for number in range(7)), sorted(events))
+
+
+def one_view_is_in_two_sessions(program):
+    with hosting(program, ["a", "b"], 4) as host:
+        views = [host.sessions[place].view(7) for place in (0, 1, 1, 0)]
+        for view in views[:2]:
+            view.joined()
+        for view in views[2:]:
+            view.joined()
+        for view in views:
+            view.wire.stop_sending()
+        run = host.end()
+    expect(0, run.status)
+    for number in (1, 2):
+        kinds = [entry.kind for entry in read_stored(run.files[f"l{number}"]).log]
+        expect(["join"] * 2 + ["exit"], sorted(kinds, reverse=True))
+
+
+HOSTS = [two_sessions_have_their_own_links, a_session_that_is_not_listed_is_refused_by_the_first, a_link_without_a_frame_has_no_session,
+         sessions_do_not_notice_one_another, one_view_is_in_two_sessions]
+
+
+def host_cases():
+    return ([Case(check.__name__.replace("_", " "), check) for check in HOSTS]
+            + [Case(f"the first frame is {what}", first_frame(*of)) for what, of in FIRST_FRAMES.items()])
+
+
+PARTS = {"hosts": host_cases}

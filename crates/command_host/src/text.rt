@@ -1,0 +1,95 @@
+//! From how connections ended, and what their sessions have come to, to the text that tells it.
+ghost use Rattle.std.specs.Prelude.{◌≡◌, string_bytes, IfOk};
+ghost use Rattle.command_reflect.specs.ReflectedSteps.{end_part};
+ghost use Rattle.command_host.specs.HostedSteps.{connection_line, connection_lines, hosted_text, session_line, session_lines, session_part};
+
+use command_outcome::line_of_parts;
+use connection::Ended;
+use host_server::HostEnd;
+use reflector_core::Session;
+use std::alloc::Global;
+use tea_base::WantOfMemory;
+use text_lines::spell_numbers;
+
+/// How a connection has ended, and the value that comes with it.
+fn end_part(alloc: Global, ended: Ended) -> Result<String, WantOfMemory>
+    ensures { IfOk result (λ text. string_bytes text ≡ end_part ended) }
+{
+    match ended {
+        Ended::Left => spell_numbers(alloc, " left", &[]),
+        Ended::LinkEnd => spell_numbers(alloc, " link-end", &[]),
+        Ended::LinkFault => spell_numbers(alloc, " link-fault", &[]),
+        Ended::Idle { quiets: _ } => spell_numbers(alloc, " idle", &[]),
+        Ended::Stale { current } => spell_numbers(alloc, " stale", &[u64::from(current)]),
+        Ended::Refused { code } => spell_numbers(alloc, " refused", &[u64::from(code)]),
+        Ended::WantOfMemory => spell_numbers(alloc, " memory", &[]),
+        Ended::Unkept => spell_numbers(alloc, " unkept", &[]),
+    }
+}
+
+/// The session that served a connection, counted from 1.
+fn session_part(alloc: Global, session: Option<u32>) -> Result<String, WantOfMemory>
+    ensures { IfOk result (λ text. string_bytes text ≡ session_part session) }
+{
+    match session {
+        None => spell_numbers(alloc, " session none", &[]),
+        Some(place) => spell_numbers(alloc, " session", &[u64::from(place) + 1]),
+    }
+}
+
+/// The line of the connection of this number.
+fn connection_line(alloc: Global, number: u64, end: HostEnd) -> Result<String, WantOfMemory>
+    ensures { IfOk result (λ line. string_bytes line ≡ connection_line number end) }
+{
+    let mut front = spell_numbers(alloc, "connection", &[number])?;
+    front.push_str(session_part(alloc, end.session)?.as_str())?;
+    line_of_parts(front, end_part(alloc, end.ended)?.as_str())
+}
+
+/// The lines of connections, in order.
+fn connection_lines(alloc: Global, ends: &[HostEnd]) -> Result<String, WantOfMemory>
+    ensures { IfOk result (λ text. string_bytes text ≡ connection_lines 0 ends.now) }
+{
+    let mut text = String::new(alloc);
+    for (number, end) in ends.iter().enumerate() {
+        text.push_str(connection_line(alloc, number as u64, *end)?.as_str())?;
+    }
+    Ok(text)
+}
+
+/// The line of the session of this number: how many entries its log has, and its horizon.
+fn session_line(alloc: Global, number: u64, session: &Session) -> Result<String, WantOfMemory>
+    ensures { IfOk result (λ line. string_bytes line ≡ session_line number session.now) }
+{
+    let mut front = spell_numbers(alloc, "session", &[number])?;
+    let entries = spell_numbers(alloc, " entries", &[u64::from(session.log().len())])?;
+    front.push_str(entries.as_str())?;
+    line_of_parts(
+        front,
+        spell_numbers(alloc, " time", &[session.horizon()])?.as_str(),
+    )
+}
+
+/// The lines of sessions, in order.
+fn session_lines(alloc: Global, sessions: &[Session]) -> Result<String, WantOfMemory>
+    ensures { IfOk result (λ text. string_bytes text ≡ session_lines 1 sessions.now) }
+{
+    let mut text = String::new(alloc);
+    for (place, session) in sessions.iter().enumerate() {
+        text.push_str(session_line(alloc, place as u64 + 1, session)?.as_str())?;
+    }
+    Ok(text)
+}
+
+/// What is printed of sessions after their host: a line for each connection, and then one for each session.
+pub fn hosted_text(
+    alloc: Global,
+    ends: &[HostEnd],
+    sessions: &[Session],
+) -> Result<String, WantOfMemory>
+    ensures { IfOk result (λ text. string_bytes text ≡ hosted_text ends.now sessions.now) }
+{
+    let mut text = connection_lines(alloc, ends)?;
+    text.push_str(session_lines(alloc, sessions)?.as_str())?;
+    Ok(text)
+}

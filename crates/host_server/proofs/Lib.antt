@@ -1,0 +1,12 @@
+pub mod Around
+pub mod ClosingLaws
+pub mod Finals
+pub mod Gathering
+pub mod LinkLaws
+pub mod Naming
+pub mod Openings
+pub mod NetLaws
+pub mod Places
+pub mod Quiets
+pub mod RowLaws
+pub mod WholeLinks

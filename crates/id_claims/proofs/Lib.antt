@@ -1,0 +1,6 @@
+pub mod Views
+pub mod Places
+pub mod Taking
+pub mod Sharing
+pub mod Closing
+pub mod Contracts

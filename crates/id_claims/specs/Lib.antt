@@ -1,0 +1,4 @@
+pub mod Ids
+pub mod Passes
+pub mod Rules
+pub mod Steps
