@@ -10,7 +10,7 @@ from reflector import EMPTY, LEAVE, Reflector, View, hold_port, join_frame, leav
 from websocket import BINARY, TEXT, frame
 
 LINK = re.compile(r"connection (\d+) session (\d+|none) (.+)")
-SESSION = re.compile(r"session (\d+) entries (\d+) time (\d+)")
+SESSION = re.compile(r"session (\d+) entries (\d+) time (\d+)( id [0-9a-f]{64})?")
 MASK = b"\x37\xfa\x21\x3d"
 SILENCE = 0.05
 
@@ -30,24 +30,28 @@ class Session:
 
 
 class Host(Reflector):
-    """A run of `host` of sessions with these names, all of one program."""
+    """A run of `host` of sessions with these names, all of one program, and of others where they are made on demand."""
 
-    def __init__(self, program, names, connections, source=EMPTY, port=None):
+    def __init__(self, program, names, connections, source=EMPTY, port=None, on_demand=False):
         self.holder = None if port else hold_port()
         self.port = port or self.holder.getsockname()[1]
         self.begun, self.address = time.monotonic(), f"127.0.0.1:{self.port}"
-        config = "".join(f"session {name} p\n" for name in names).encode()
+        config = "".join(f"session {name} p\n" for name in names).encode() + b"any\n" * on_demand
         self.run = program.start(
             ["host", "c", self.address, "--connections", str(connections), "--logs", "l"],
             {"c": config, "p": source}, f"listening at {self.address}\n".encode())
         self.wires = []
         self.sessions = [Session(self, name.encode(), source) for name in names]
 
+    def other(self, name):
+        """A session that is not listed."""
+        return Session(self, name, EMPTY)
+
 
 @contextlib.contextmanager
-def hosting(program, names, connections):
+def hosting(program, names, connections, on_demand=False):
     """A host that is killed where the check does not come to its end."""
-    host = Host(program, names, connections)
+    host = Host(program, names, connections, on_demand=on_demand)
     try:
         yield host
     finally:
@@ -56,8 +60,8 @@ def hosting(program, names, connections):
             host.end()
 
 
-def expect_hosted(run, links, sessions):
-    """How the links ended, each with its session, in any order of acceptance, and how many entries each session has."""
+def expect_hosted(run, links, sessions, made=()):
+    """How the links ended, each with its session, in any order of acceptance, and how many entries each session has. The last sessions were made on demand, with these ids."""
     expect(0, run.status)
     lines = run.text.decode().splitlines()
     told = [LINK.fullmatch(line) for line in lines[:len(links)]]
@@ -68,8 +72,11 @@ def expect_hosted(run, links, sessions):
     expect_that(len(rows) == len(sessions) and all(rows), "a line for each session", lines)
     expect([(str(number), str(entries)) for number, entries in enumerate(sessions, 1)],
            [(match[1], match[2]) for match in rows])
-    expect({f"l{number}" for number in range(1, len(sessions) + 1)}, set(run.files))
-    logs = [read_stored(run.files[f"l{number}"]) for number in range(1, len(sessions) + 1)]
+    listed = len(sessions) - len(made)
+    expect([None] * listed + [f" id {ident.hex()}" for ident in made], [match[4] for match in rows])
+    names = [f"l{number}" for number in range(1, listed + 1)] + [f"l{ident.hex()}" for ident in made]
+    expect(set(names), set(run.files))
+    logs = [read_stored(run.files[name]) for name in names]
     expect([match[3] for match in rows], [str(log.horizon) for log in logs])
     return logs
 
@@ -150,6 +157,79 @@ def a_link_without_a_frame_has_no_session(program):
     expect_hosted(run, [("none", "link-end"), ("none", "link-end"), ("none", "link-fault")], [0, 0])
 
 
+# ---------------------------------------------------------------- on demand
+
+
+def sessions_are_made_on_demand(program):
+    """Two sessions that are not listed are made beside one that is, in the order in which their first links join."""
+    with hosting(program, ["a"], 3, on_demand=True) as host:
+        first, second = host.other(b"b"), host.other(b"c")
+        views = [first.view(7)]
+        views[0].joined()
+        for session in (second, host.sessions[0]):
+            views.append(session.view(7))
+            views[-1].joined()
+        expect(2, views[1].done(b"hi")[0])
+        leave_all(*views)
+        run = host.end()
+    logs = expect_hosted(run, [("2", "left"), ("3", "left"), ("1", "left")], [2, 2, 3], [first.ident, second.ident])
+    expect_entries(logs[0], "1:join:7 2:exit:7")
+    expect_entries(logs[1], "1:join:7 2:exit:7")
+    expect_entries(logs[2], "1:join:7 2:event:7:1:6869 3:exit:7")
+
+
+def two_links_that_join_one_id_are_in_one_session(program):
+    with hosting(program, ["a"], 8, on_demand=True) as host:
+        session = host.other(b"b")
+        views = [session.view(number) for number in range(1, 9)]
+        for view in views:
+            view.joined()
+        for number, view in enumerate(views, 1):
+            expect(8 + number, view.done(b"hi")[0])
+        leave_all(*views)
+        run = host.end()
+    logs = expect_hosted(run, [("2", "left")] * 8, [0, 24], [session.ident])
+    expect(sorted(range(1, 9)), sorted(entry.view for entry in logs[1].log if entry.kind == "join"))
+
+
+def a_request_that_is_refused_makes_its_session(program):
+    """A JOIN of view 0 is refused, and its session is there for the next link."""
+    with hosting(program, ["a"], 3, on_demand=True) as host:
+        made, other = host.other(b"b"), host.other(b"c")
+        for session in (made, other):
+            wire = say_first(host, join_frame(session.ident, 0))
+            expect(("refused", (1, 8, 0, 0)), croquet.read_server(wire.read_frame()[3]))
+            wire.close()
+        view = made.view(7)
+        view.joined()
+        leave_all(view)
+        run = host.end()
+    logs = expect_hosted(run, [("2", "refused 8"), ("3", "refused 8"), ("2", "left")], [0, 2, 0], [made.ident, other.ident])
+    expect_entries(logs[1], "1:join:7 2:exit:7")
+
+
+def a_first_frame_that_joins_nothing_makes_no_session(program):
+    with hosting(program, ["a"], len(FIRST_FRAMES) + 1, on_demand=True) as host:
+        for content, _ in FIRST_FRAMES.values():
+            wire = say_first(host, content)
+            wire.read_frame()
+            wire.close()
+        silent = host.connect()
+        websocket.ask(silent)
+        silent.close()
+        run = host.end()
+    expect_hosted(run, [("1", word) for _, word in FIRST_FRAMES.values()] + [("none", "link-end")], [0])
+
+
+def no_link_asks_for_a_session(program):
+    with hosting(program, ["a", "b"], 1, on_demand=True) as host:
+        view = host.sessions[1].view(7)
+        view.joined()
+        leave_all(view)
+        run = host.end()
+    expect_hosted(run, [("2", "left")], [0, 2])
+
+
 # ---------------------------------------------------------------- one beside the others
 
 
@@ -211,6 +291,8 @@ def one_view_is_in_two_sessions(program):
 
 
 HOSTS = [two_sessions_have_their_own_links, a_session_that_is_not_listed_is_refused_by_the_first, a_link_without_a_frame_has_no_session,
+         sessions_are_made_on_demand, two_links_that_join_one_id_are_in_one_session, a_request_that_is_refused_makes_its_session,
+         a_first_frame_that_joins_nothing_makes_no_session, no_link_asks_for_a_session,
          sessions_do_not_notice_one_another, one_view_is_in_two_sessions]
 
 

@@ -1,7 +1,11 @@
-"""`host` behind nginx, by the configuration in deploy/: TLS, origins, limits, and one process for each session."""
+"""`host` behind nginx, by the configuration in deploy/: TLS, origins, limits, and one process for each session.
+
+One session is listed, and the others are made on demand.
+"""
 import contextlib
 import encodings.idna  # noqa: F401 (what wrap_socket loads; nobody may not be able to read it)
 import os
+import re
 import shutil
 import socket
 import ssl
@@ -12,18 +16,24 @@ import time
 from case import FOLDER, Case, expect, expect_that
 from hosts import Host
 from reference import croquet, read_stored
-from reflector import EMPTY, LEAVE, View, hold_port, wait_for_listener
+from reflector import LEAVE, View, hold_port, wait_for_listener
 from websocket import Ended, Wire
 
+LINE = re.compile(r"session (\d+) entries (\d+) time (\d+)(?: id ([0-9a-f]{64}))?")
 DEPLOYED = {}
 # They are read here, since the checks become nobody, who may not be able to read them.
 for name in ("croquet.conf", "croquet-rates.conf"):
     with open(os.path.join(FOLDER, os.pardir, "deploy", "nginx", name), encoding="utf-8") as opened:
         DEPLOYED[name] = opened.read()
 STREAMS = "/usr/lib/nginx/modules/ngx_stream_module.so"
-SESSIONS = [f"board-{number}" for number in range(16)]
+SESSIONS = [f"board-{number}" for number in range(40)]
 # So many sessions have a second view.
 SHARED = 8
+TURNS = 3
+SOURCE = b"""class Root{field sum;field last;
+init(o){this.sum=0;subscribe("board","add","add");}
+add(v,view){this.sum=this.sum+v*random(1000);this.last=view;this.future(100).more();}
+more(){this.sum=this.sum+1;}}"""
 # More links than come to one process by the proxy.
 MOST_LINKS = 64
 HOME = "https://board.example.org"
@@ -119,12 +129,20 @@ class Proxy:
         shutil.rmtree(self.folder, ignore_errors=True)
 
 
+def ident_of(name):
+    return croquet.session_id(name.encode(), SOURCE)
+
+
+# The name of each session, by the digits of its id.
+NAMES = {ident_of(name).hex(): name for name in SESSIONS}
+
+
 class Link:
     """What a view by hand connects to: a session behind the proxy."""
 
     def __init__(self, proxy, name, source):
         self.proxy, self.name, self.source = proxy, name, source
-        self.ident = croquet.session_id(name.encode(), EMPTY)
+        self.ident = ident_of(name)
 
     def open(self, _receive_buffer):
         status, wire = self.proxy.status(self.name, self.source)
@@ -132,10 +150,15 @@ class Link:
         return wire
 
 
+def started(program, port=None):
+    """A process. The first session is listed."""
+    return Host(program, SESSIONS[:1], MOST_LINKS, SOURCE, port, on_demand=True)
+
+
 @contextlib.contextmanager
 def deployed(program):
-    """Two processes that have all sessions, and nginx before them."""
-    hosts = [Host(program, SESSIONS, MOST_LINKS) for _ in range(2)]
+    """Two processes that make sessions on demand, and nginx before them."""
+    hosts = [started(program) for _ in range(2)]
     proxy = None
     try:
         for host in hosts:
@@ -169,11 +192,52 @@ def view(proxy, number, view_number):
     return View(Link(proxy, SESSIONS[number], source_of(number)), view_number, "whole", 0, None)
 
 
-def logs_of(hosts):
-    """The entries of each session of each process, once both have ended."""
-    runs = [fill(host) for host in hosts]
-    expect([0, 0], [run.status for run in runs])
-    return [[read_stored(run.files[f"l{number}"]).log for number in range(1, len(SESSIONS) + 1)] for run in runs]
+def leave(views):
+    """All leave, and hear to the Close. A link that is not ended within a second is ended by its process."""
+    for one in views:
+        one.say(LEAVE)
+    for one in views:
+        one.until("close")
+
+
+def event(value):
+    return croquet.payload("board", "add", value)
+
+
+def files_of(host):
+    """The files of the sessions of a process that have entries, each by its name, once the process has ended. It told of each file."""
+    run = fill(host)
+    expect(0, run.status)
+    rows = [LINE.fullmatch(line) for line in run.text.decode().splitlines()[MOST_LINKS:]]
+    expect_that(all(rows) and not rows[0][4] and all(match[4] for match in rows[1:]), "a session that is listed, and others with their ids", run.text)
+    files = [f"l{match[4] or match[1]}" for match in rows]
+    expect(sorted(files), sorted(run.files))
+    names = [SESSIONS[0], *(NAMES.get(match[4]) for match in rows[1:])]
+    return {name: run.files[file] for name, file, match in zip(names, files, rows) if match[2] != "0"}
+
+
+def expect_replays(program, views, hosts):
+    """Each session is in the file of one process. Each view was told of its log, and its world has the digest of the replay. Gives the entries of each session."""
+    files = [files_of(host) for host in hosts]
+    expect_that(all(files), "sessions in both processes", [len(of) for of in files])
+    expect(sorted(SESSIONS), sorted(name for of in files for name in of))
+    files = {**files[0], **files[1]}
+    logs = [read_stored(files[name]).log for name in SESSIONS]
+    for name, log, of in zip(SESSIONS, logs, views):
+        for one in of:
+            expect(log[:len(one.entries)], one.entries)
+            expect_digest(program, name, files[name], one)
+    return logs
+
+
+def expect_digest(program, name, content, one):
+    """The world that a view has in the end, by the reference, is that of the replay of its session's file to that time."""
+    time_ = max(one.tick, one.entries[-1].time)
+    world = croquet.World.first(croquet.read_program(SOURCE), ident_of(name))
+    world = croquet.replayed(world, one.entries, time_)
+    run = program.run(["replay", "p", name, "l", str(time_)], {"p": SOURCE, "l": content})
+    expect_that(run.status == 0, "a replay", run.told())
+    expect(croquet.hashlib.sha256(world.snapshot()).hexdigest(), run.text.split()[-1].decode())
 
 
 def each_session_is_in_one_process(program):
@@ -183,23 +247,16 @@ def each_session_is_in_one_process(program):
             views[number].append(view(proxy, number, 8))
         everyone = [one for of in views for one in of]
         for one in everyone:
-            one.joined()
-        for turn in range(3):
+            expect(0, one.joined()[2])
+        for turn in range(TURNS):
             for number, of in enumerate(views):
                 for one in of:
-                    one.done(f"{number} {turn}".encode())
-        for one in everyone:
-            one.say(LEAVE)
-            one.until("close")
-        logs = logs_of(hosts)
-    for number, of in enumerate(views):
-        held = [of_process[number] for of_process in logs if of_process[number]]
-        expect(1, len(held))
-        expect([f"{number} {turn}".encode() for turn in range(3) for _ in of],
-               [entry.payload for entry in held[0] if entry.kind == "event"])
-        for one in of:
-            expect(held[0][one.from_:one.from_ + len(one.entries)], one.entries)
-    expect_that(all(any(log) for log in logs), "sessions in both processes", [sum(map(bool, log)) for log in logs])
+                    one.done(event(TURNS * number + turn))
+        leave(everyone)
+        logs = expect_replays(program, views, hosts)
+    for number, (log, of) in enumerate(zip(logs, views)):
+        expect([event(TURNS * number + turn) for turn in range(TURNS) for _ in of],
+               [entry.payload for entry in log if entry.kind == "event"])
 
 
 def a_page_of_another_site_is_turned_away(program):
@@ -216,30 +273,34 @@ def a_client_has_sixteen_links(program):
 
 
 def a_session_waits_for_its_process(program):
-    """While a process is gone, its sessions are in no other one. The sessions of the other process go on."""
+    """While a process is gone, its sessions are in no other one, and those of the other process go on. Once it is there again, its
+    clients come back, and their sessions begin anew."""
     with deployed(program) as (proxy, hosts):
         views = [view(proxy, number, 7) for number in range(len(SESSIONS))]
         for one in views:
             one.joined()
+            one.done(event(1))
         hosts[0].run.kill()
         hosts[0].end()
         lives = [is_there(one) for one in views]
         expect_that(any(lives) and not all(lives), "sessions in both processes", sum(lives))
-        lost = lives.index(False)
-        expect(502, proxy.status(SESSIONS[lost], source_of(lost))[0])
-        again = Host(program, SESSIONS, MOST_LINKS, port=hosts[0].port)
-        hosts[0] = again
-        wait_for_listener(again.port, again.run.process)
-        back = view(proxy, lost, 7)
-        expect((1, 0, 0, None), back.joined())
-        # In a session that went on there are its join and the event by which the check has asked.
-        expect(3, views[lives.index(True)].done(b"on")[0])
+        lost = [number for number, lives_on in enumerate(lives) if not lives_on]
+        expect(502, proxy.status(SESSIONS[lost[0]], source_of(lost[0]))[0])
+        hosts[0] = started(program, hosts[0].port)
+        wait_for_listener(hosts[0].port, hosts[0].run.process)
+        for number in lost:
+            views[number] = view(proxy, number, 7)
+            expect((1, 0, 0, None), views[number].joined())
+        # In a session that went on there are its join, an event, and the event by which the check has asked.
+        expect([4 if lives_on else 2 for lives_on in lives], [one.done(event(2))[0] for one in views])
+        leave(views)
+        expect_replays(program, [[one] for one in views], hosts)
 
 
 def is_there(one):
     """Whether the link of a view is still there."""
     try:
-        one.done(b"hi")
+        one.done(event(3))
         return True
     except (Ended, OSError):
         return False

@@ -494,18 +494,50 @@ def hear_first(link):
     return None, "idle"
 
 
-def serve_hosted(ids, sessions, link):
+class Hosted:
+    """The sessions of a host: those that are listed, and then those that were made on demand."""
+
+    def __init__(self, ids, on_demand):
+        self.ids, self.sessions, self.listed, self.on_demand = [], [], len(ids), on_demand
+        self.lock = threading.Lock()
+        for ident in ids:
+            self.make(ident)
+
+    def make(self, ident):
+        self.sessions.append(Reflecting(ident, croquet.Session(), lambda: links.now()))
+        self.ids.append(ident)
+
+    def place_for(self, first):
+        """The number of the session, from 0, to which a link goes whose first frame is this."""
+        with self.lock:
+            if self.on_demand and croquet.is_to_be_made(self.ids, first):
+                self.make(croquet.joined_id(first))
+            return croquet.goes_to(self.ids, first)
+
+    def is_listed(self, place):
+        return place < self.listed
+
+
+def serve_hosted(hosted, link):
     """The number of the session that serves a link, from 0, if one does, and the word of its end."""
     first, word = hear_first(OneLink(link))
     if first is None:
+        links.close(link)
         return None, word
-    place = croquet.goes_to(ids, first)
-    return place, Talk(sessions[place], Peeked(link, first)).run()
+    place = hosted.place_for(first)
+    return place, serve_link(link, Talk(hosted.sessions[place], Peeked(link, first)))
+
+
+def put_hosted(hosted, prefix):
+    """Writes each session under a name that ends in its number, or in its id where it was made on demand."""
+    for place, shared in enumerate(hosted.sessions):
+        name = place + 1 if hosted.is_listed(place) else shared.ident.hex()
+        write_file(f"{prefix}{name}", shared.session.encoded())
 
 
 def host(plain, options):
     count = number(options["--connections"], 1, 65)
-    lines = croquet.read_config(read_file(plain[0], "config"))
+    lines, on_demand = croquet.read_config(read_file(plain[0], "config"))
     sources = {}
     for _, program in lines:
         if program not in sources:
@@ -513,7 +545,7 @@ def host(plain, options):
             croquet.read_program(sources[program])
     ids = croquet.hosted_ids(lines, sources)
     croquet.check_address(plain[1])
-    sessions = [Reflecting(ident, croquet.Session(), lambda: links.now()) for ident in ids]
+    hosted = Hosted(ids, on_demand)
     try:
         listener = links.listen(links.socket_address(plain[1]))
     except OSError:
@@ -524,20 +556,20 @@ def host(plain, options):
     while len(accepted) < count:
         link = links.accept_soon(listener)
         if link is not None:
-            serve = lambda place, link: ends.update({place: serve_hosted(ids, sessions, link)})
+            serve = lambda place, link: ends.update({place: serve_hosted(hosted, link)})
             threads.append(threading.Thread(target=serve, args=(len(accepted), link)))
             accepted.append(link)
             threads[-1].start()
     for thread in threads:
         thread.join()
     links.close_all(accepted)
-    for place, shared in enumerate(sessions, 1):
-        write_file(f"{options['--logs']}{place}", shared.session.encoded())
+    put_hosted(hosted, options["--logs"])
     for place in range(len(accepted)):
         session, word = ends[place]
         say(f"connection {place} session {'none' if session is None else session + 1} {word}")
-    for place, shared in enumerate(sessions, 1):
-        say(f"session {place} entries {len(shared.session.log)} time {shared.session.horizon}")
+    for place, shared in enumerate(hosted.sessions):
+        made = "" if hosted.is_listed(place) else f" id {shared.ident.hex()}"
+        say(f"session {place + 1} entries {len(shared.session.log)} time {shared.session.horizon}{made}")
 
 
 # ---------------------------------------------------------------- the program

@@ -209,7 +209,7 @@ class Link:
             if self.is_client:
                 websocket.check_acceptance(head, self.key)
             else:
-                self.put(websocket.acceptance_of(websocket.key_of_request(head)))
+                self.put(websocket.acceptance_of(websocket.key_of_request(head, rb"/\S*")))
         except (Wrong, ValueError):
             raise Failed() from None
         self.held, self.is_open = bytearray(rest), True

@@ -2,6 +2,7 @@
 import base64
 import hashlib
 import os
+import re
 import socket
 import struct
 import time
@@ -173,10 +174,10 @@ def check_acceptance(head, key):
         raise Wrong(accept_of(key), fields.get(b"sec-websocket-accept"))
 
 
-def key_of_request(head):
-    """The key of a request that is as RFC 6455, 4.1 wants it."""
+def key_of_request(head, path=rb"/"):
+    """The key of a request that is as RFC 6455, 4.1 wants it, of a path of this form."""
     first, fields = fields_of(head)
-    if first != b"GET / HTTP/1.1" or not fields.get(b"host"):
+    if not re.fullmatch(rb"GET " + path + rb" HTTP/1\.1", first) or not fields.get(b"host"):
         raise Wrong("GET / HTTP/1.1 and a host", head)
     if fields.get(b"upgrade", b"").lower() != b"websocket":
         raise Wrong("an upgrade to websocket", head)

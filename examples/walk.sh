@@ -1,6 +1,7 @@
 #!/usr/bin/env bash
-# Runs the commands that README.md, docs/TUTORIAL.md, docs/PIPES.md and examples/README.md show, and compares what is printed. Run it by hand, in any folder, while
-# nothing else listens on the ports 8080 and 8090. It ends with 1 at the first block that prints something else, or in which a command fails.
+# Runs the commands that README.md, docs/TUTORIAL.md, docs/PIPES.md, examples/README.md and two sections of docs/OPERATION.md show, and compares what is printed.
+# Run it by hand, in any folder, while nothing else listens on the ports 8080 and 8090. It ends with 1 at the first block that prints something else, or in
+# which a command fails.
 #
 # A ```sh block that calls ./croquet, or a script, is run. The ```text block after it is what its commands print. Where there is none, they print
 # nothing. A ```console block has commands for terminals of their own, which run at the same time. The ```console block after it is what the second of
@@ -10,10 +11,12 @@ top=$(cd "$(dirname "${BASH_SOURCE[0]}")/.." && pwd)
 work=$(mktemp -d)
 trap 'rm -rf "$work"' EXIT
 
-# Writes the blocks of a page: N.sh and N.text, N.terminals and N.seen.
+# Writes the blocks of a page, or of its section under a heading: N.sh and N.text, N.terminals and N.seen.
 blocks() {
     mkdir -p "$2"
-    awk -v folder="$2" '
+    awk -v folder="$2" -v heading="$3" '
+        /^##* / && !inside { elsewhere = heading != "" && $0 != heading }
+        elsewhere { next }
         /^```/ && inside { inside = 0; next }
         /^```/ {
             inside = 1
@@ -75,12 +78,13 @@ run_terminal_block() {
     compare "$page" "$block" "$work/wanted"
 }
 
-# The commands of a page share a folder, so that one may read what another has written.
+# The commands of a page, or of its section under a heading, share a folder, so that one may read what another has written.
 walk() {
-    local page=$1 parts=$work/parts/$1 room=$work/rooms/$1 block ran=0
-    blocks "$top/$page" "$parts"
+    local page=$1 section=${2:-} block ran=0 parts room
+    parts=$work/parts/$1$section room=$work/rooms/$1$section
+    blocks "$top/$page" "$parts" "$section"
     mkdir -p "$room"
-    ln -s "$top/croquet" "$top/examples" "$room"
+    ln -s "$top"/{croquet,examples,checks,deploy,reference,release} "$room"
     for block in "$parts"/*.sh "$parts"/*.terminals; do
         case $block in
         *'*'*) continue ;;
@@ -89,17 +93,23 @@ walk() {
             run_terminal_block "$page" "$block"
             ;;
         *)
-            grep -q '\./croquet\|^examples/\|^bash ' "$block" || continue
+            grep -q '\./croquet\|^examples/\|^checks/\|^bash ' "$block" || continue
             run_block "$page" "$block"
             ;;
         esac
         ran=$((ran + 1))
     done
-    [ "$ran" -gt 0 ] || { echo "walk: $page shows no command" >&2; exit 1; }
-    echo "walk: $page: $ran blocks print what the page shows"
+    [ "$ran" -gt 0 ] || { echo "walk: $page${section:+, $section} shows no command" >&2; exit 1; }
+    echo "walk: $page${section:+, $section}: $ran blocks print what the page shows"
 }
 
 walk README.md
 walk docs/TUTORIAL.md
 if command -v node >/dev/null; then walk docs/PIPES.md; else echo "walk: docs/PIPES.md is left out, since there is no node"; fi
 walk examples/README.md
+walk docs/OPERATION.md "### Two programs in one process"
+if [ -x /usr/sbin/nginx ] && command -v openssl >/dev/null; then
+    walk docs/OPERATION.md "### Several processes, and a proxy"
+else
+    echo "walk: the proxy of docs/OPERATION.md is left out, since there is no nginx or no openssl"
+fi

@@ -2169,13 +2169,14 @@ MOST_CONFIG_BYTES, MOST_HOSTED = 65_536, 16
 
 
 def read_config(source):
-    """The name and the program of each session of a host's configuration."""
+    """The name and the program of each session of a host's configuration, and whether sessions are made on demand."""
     lines = [re.split(" +", line) for line in read_lines(source, MOST_CONFIG_BYTES, "input config")]
-    if not all(len(line) == 3 and line[0] == "session" and len(line[1].encode()) <= MOST_SESSION_NAME for line in lines):
+    listed = [line for line in lines if line != ["any"]]
+    if not all(len(line) == 3 and line[0] == "session" and len(line[1].encode()) <= MOST_SESSION_NAME for line in listed):
         raise Ended("input config", 3)
-    if not 1 <= len(lines) <= MOST_HOSTED:
+    if not 1 <= len(listed) <= MOST_HOSTED or len(lines) - len(listed) > 1:
         raise Ended("input config", 3)
-    return [(name, program) for _, name, program in lines]
+    return [(name, program) for _, name, program in listed], len(lines) > len(listed)
 
 
 def hosted_ids(sessions, sources):
@@ -2186,13 +2187,25 @@ def hosted_ids(sessions, sources):
     return ids
 
 
-def goes_to(ids, content):
-    """The number of the session, from 0, to which a link goes whose first frame is this."""
+def joined_id(content):
+    """The id of the session that a frame joins, if it joins one."""
     try:
         tag, fields = read_client(content)
     except Bad:
-        return 0
-    return ids.index(fields[0]) if tag == 1 and fields[0] in ids else 0
+        return None
+    return fields[0] if tag == 1 else None
+
+
+def is_to_be_made(ids, content):
+    """Whether a first frame makes a session of a host that makes them on demand, and has these."""
+    ident = joined_id(content)
+    return ident is not None and ident not in ids and len(ids) < MOST_SESSIONS
+
+
+def goes_to(ids, content):
+    """The number of the session, from 0, to which a link goes whose first frame is this."""
+    ident = joined_id(content)
+    return ids.index(ident) if ident in ids else 0
 
 
 def read_opening(source):

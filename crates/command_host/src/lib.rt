@@ -6,5 +6,5 @@ mod hosting;
 mod outcome;
 mod text;
 
-pub use hosting::{Hosting, LogPlaces, SessionIds, log_places};
+pub use hosting::{Hosting, LogPlaces, Rooms, log_places, on_demand_places, rooms_for};
 pub use outcome::hosted_outcome;

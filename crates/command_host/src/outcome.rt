@@ -9,18 +9,20 @@ use command_outcome::{Outcome, Puts};
 use host_server::HostEnd;
 use reflector_core::Session;
 use std::alloc::Global;
-use tea_base::{Blob, WantOfMemory};
+use tea_base::{Blob, SessionId, WantOfMemory};
 
-/// What is printed of sessions after their host: how their connections ended, and what each has come to.
+/// What is printed of sessions after their host, so many of which were listed: how their connections ended, and what each has come to.
 pub fn hosted_outcome(
     alloc: Global,
+    listed: usize,
+    ids: &[SessionId],
     ends: &[HostEnd],
     sessions: &[Session],
 ) -> Result<Outcome, WantOfMemory>
-    ensures { IfOk result (λ outcome. steps_of outcome.files outcome.text ≡ Prints (hosted_text ends.now sessions.now)
+    ensures { IfOk result (λ outcome. steps_of outcome.files outcome.text ≡ Prints (hosted_text listed ids.now ends.now sessions.now)
         ∷ []) }
 {
-    let text = hosted_text(alloc, ends, sessions)?;
+    let text = hosted_text(alloc, listed, ids, ends, sessions)?;
     Ok(Outcome {
         files: Puts::new(alloc),
         text: Blob::from_vec(text.into_bytes()),

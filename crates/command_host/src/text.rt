@@ -1,14 +1,14 @@
 //! From how connections ended, and what their sessions have come to, to the text that tells it.
 ghost use Rattle.std.specs.Prelude.{◌≡◌, string_bytes, IfOk};
 ghost use Rattle.command_reflect.specs.ReflectedSteps.{end_part};
-ghost use Rattle.command_host.specs.HostedSteps.{connection_line, connection_lines, hosted_text, session_line, session_lines, session_part};
+ghost use Rattle.command_host.specs.HostedSteps.{connection_line, connection_lines, hosted_text, id_part, made_id, session_line, session_lines, session_part};
 
 use command_outcome::line_of_parts;
 use connection::Ended;
 use host_server::HostEnd;
 use reflector_core::Session;
 use std::alloc::Global;
-use tea_base::WantOfMemory;
+use tea_base::{SessionId, WantOfMemory};
 use text_lines::spell_numbers;
 
 /// How a connection has ended, and the value that comes with it.
@@ -57,39 +57,75 @@ fn connection_lines(alloc: Global, ends: &[HostEnd]) -> Result<String, WantOfMem
     Ok(text)
 }
 
-/// The line of the session of this number: how many entries its log has, and its horizon.
-fn session_line(alloc: Global, number: u64, session: &Session) -> Result<String, WantOfMemory>
-    ensures { IfOk result (λ line. string_bytes line ≡ session_line number session.now) }
+/// The id of a session, where it was made on demand: the numbers up to `listed` are those of the listed sessions.
+fn made_id(listed: usize, number: usize, id: SessionId) -> Option<SessionId>
+    ensures { result ≡ made_id listed number id }
 {
-    let mut front = spell_numbers(alloc, "session", &[number])?;
-    let entries = spell_numbers(alloc, " entries", &[u64::from(session.log().len())])?;
-    front.push_str(entries.as_str())?;
-    line_of_parts(
-        front,
-        spell_numbers(alloc, " time", &[session.horizon()])?.as_str(),
-    )
+    if number <= listed {
+        return None;
+    }
+    Some(id)
 }
 
-/// The lines of sessions, in order.
-fn session_lines(alloc: Global, sessions: &[Session]) -> Result<String, WantOfMemory>
-    ensures { IfOk result (λ text. string_bytes text ≡ session_lines 1 sessions.now) }
+/// The hexadecimal digits of the id of a session that was made on demand.
+fn id_part(alloc: Global, made: Option<SessionId>) -> Result<String, WantOfMemory>
+    ensures { IfOk result (λ text. string_bytes text ≡ id_part made) }
 {
     let mut text = String::new(alloc);
-    for (place, session) in sessions.iter().enumerate() {
-        text.push_str(session_line(alloc, place as u64 + 1, session)?.as_str())?;
+    if let Some(id) = made {
+        text.push_str(" id ")?;
+        text.push_str(hex::encode(alloc, id.0.as_slice())?.as_str())?;
     }
     Ok(text)
 }
 
-/// What is printed of sessions after their host: a line for each connection, and then one for each session.
+/// The line of the session of this number: how many entries its log has, its horizon, and its id if it was made on demand.
+fn session_line(
+    alloc: Global,
+    number: u64,
+    made: Option<SessionId>,
+    session: &Session,
+) -> Result<String, WantOfMemory>
+    ensures { IfOk result (λ line. string_bytes line ≡ session_line number made session.now) }
+{
+    let mut front = spell_numbers(alloc, "session", &[number])?;
+    let entries = spell_numbers(alloc, " entries", &[u64::from(session.log().len())])?;
+    front.push_str(entries.as_str())?;
+    front.push_str(spell_numbers(alloc, " time", &[session.horizon()])?.as_str())?;
+    line_of_parts(front, id_part(alloc, made)?.as_str())
+}
+
+/// The lines of the sessions of these ids, in order.
+fn session_lines(
+    alloc: Global,
+    listed: usize,
+    ids: &[SessionId],
+    sessions: &[Session],
+) -> Result<String, WantOfMemory>
+    ensures { IfOk result (λ text. string_bytes text ≡ session_lines listed 1 ids.now sessions.now) }
+{
+    let mut text = String::new(alloc);
+    for (place, session) in sessions.iter().enumerate() {
+        let Some(id) = ids.get(place) else {
+            return Ok(text);
+        };
+        let made = made_id(listed, place + 1, *id);
+        text.push_str(session_line(alloc, place as u64 + 1, made, session)?.as_str())?;
+    }
+    Ok(text)
+}
+
+/// What is printed of sessions after their host, so many of which were listed: a line for each connection, and then one for each session.
 pub fn hosted_text(
     alloc: Global,
+    listed: usize,
+    ids: &[SessionId],
     ends: &[HostEnd],
     sessions: &[Session],
 ) -> Result<String, WantOfMemory>
-    ensures { IfOk result (λ text. string_bytes text ≡ hosted_text ends.now sessions.now) }
+    ensures { IfOk result (λ text. string_bytes text ≡ hosted_text listed ids.now ends.now sessions.now) }
 {
     let mut text = connection_lines(alloc, ends)?;
-    text.push_str(session_lines(alloc, sessions)?.as_str())?;
+    text.push_str(session_lines(alloc, listed, ids, sessions)?.as_str())?;
     Ok(text)
 }

@@ -5,7 +5,10 @@ use Rattle.std.proofs.lemmas.List.{at_drop_more, length-map}
 use Rattle.tea_base.specs.declared.entry.SessionId.{SessionId}
 use Rattle.command_words.specs.declared.words.HostRequest.{HostRequest}
 use Rattle.host_config.specs.Config.{AreFew, most_sessions}
+use Rattle.host_config.specs.declared.reading.Config.{Config}
 use Rattle.host_config.specs.declared.reading.SessionLine.{SessionLine}
+use Rattle.command_reflect.specs.declared.reflection.LogPlace.{LogPlace}
+use Rattle.command_host.specs.Hosting.{log_names, numbered_names}
 use Rattle.commands.specs.declared.hosting.ReadProgram.{ReadProgram}
 use Rattle.commands.specs.Verdict.{Free, OfHostIds, OfHostPrograms, Verdict, are_apart, host_id, host_ids, is_among, session_id_of, text_in}
 use Rattle.commands.specs.Work.{AreHosted}
@@ -36,6 +39,16 @@ hosted_ids read lines ids is few =
     let long : length ids ≡ length lines = ap length is ∙ length-map lines (host_id read) in
     (let some = few.0 in omega (arith, long, some), let most = few.1 in omega (arith, long, most))
 
+-- ---- the places of sessions
+
+as_many_names : (prefix : List ℕ) (number : ℕ) (ids : List SessionId) → length (numbered_names prefix number ids) ≡ length ids
+as_many_names prefix number [] = refl
+as_many_names prefix number (id ∷ ids) = ap suc (as_many_names prefix (number + 1) ids)
+
+-- as many places as ids
+pub as_many_logs : (logs : List LogPlace) (prefix : List ℕ) (ids : List SessionId) → log_names logs ≡ numbered_names prefix 1 ids → length logs ≡ length ids
+as_many_logs logs prefix ids named = sym (length-map logs (λ (place : LogPlace). place.name)) ∙ ap length named ∙ as_many_names prefix 1 ids
+
 -- ---- ids that are apart
 
 pub apart_later : (ids : List SessionId) (place : ℕ) (id : SessionId) → place < length ids → id ≡ get_or ids place id → is_among id (drop (place + 1) ids) ≡ false
@@ -53,13 +66,13 @@ pub no_more : (names : List (List ℕ)) → names ≡ drop 1 names → names ≡
 no_more [] same = refl
 no_more (name ∷ rest) same = let long : suc (length rest) ≡ length rest = ap length same in absurd (omega (arith, long))
 
-pub none_left : (request : HostRequest) (lines : List SessionLine) (read : List ReadProgram) (names : List (List ℕ)) (verdict : Verdict) → names ≡ [] → Free (OfHostIds request (host_ids read lines)) verdict
-    → Free (OfHostPrograms request lines read names) verdict
-none_left request lines read names verdict none comes = subst (λ (left : List (List ℕ)). Free (OfHostPrograms request lines read left) verdict) (sym none) comes
+pub none_left : (request : HostRequest) (config : Config) (read : List ReadProgram) (names : List (List ℕ)) (verdict : Verdict) → names ≡ []
+    → Free (OfHostIds request config.on_demand (host_ids read config.sessions)) verdict → Free (OfHostPrograms request config read names) verdict
+none_left request config read names verdict none comes = subst (λ (left : List (List ℕ)). Free (OfHostPrograms request config read left) verdict) (sym none) comes
 
-pub one_left : (request : HostRequest) (lines : List SessionLine) (read : List ReadProgram) (names later : List (List ℕ)) (name : List ℕ) (verdict : Verdict) → names ≡ name ∷ later
-    → OfHostPrograms request lines read (name ∷ later) verdict → Free (OfHostPrograms request lines read names) verdict
-one_left request lines read names later name verdict is comes = inr (subst (λ (left : List (List ℕ)). OfHostPrograms request lines read left verdict) (sym is) comes)
+pub one_left : (request : HostRequest) (config : Config) (read : List ReadProgram) (names later : List (List ℕ)) (name : List ℕ) (verdict : Verdict) → names ≡ name ∷ later
+    → OfHostPrograms request config read (name ∷ later) verdict → Free (OfHostPrograms request config read names) verdict
+one_left request config read names later name verdict is comes = inr (subst (λ (left : List (List ℕ)). OfHostPrograms request config read left verdict) (sym is) comes)
 
 -- fewer files are left to be read than there were
 pub fewer_left : (names later : List (List ℕ)) (name : List ℕ) → names ≡ name ∷ later → length later + 1 < length names + 1
@@ -72,7 +85,7 @@ few_left lines names items left is each few fewer =
     omega (arith, long, each, most, fewer)
 
 -- the programs of a configuration are left, and none was read
-pub all_left : (request : HostRequest) (lines : List SessionLine) (read : List ReadProgram) (names all : List (List ℕ)) (verdict : Verdict) → read ≡ [] → names ≡ all → Free (OfHostPrograms request lines read names) verdict
-    → Free (OfHostPrograms request lines [] all) verdict
-all_left request lines read names all verdict none is comes =
-    subst (λ (left : List (List ℕ)). Free (OfHostPrograms request lines [] left) verdict) is (subst (λ (found : List ReadProgram). Free (OfHostPrograms request lines found names) verdict) none comes)
+pub all_left : (request : HostRequest) (config : Config) (read : List ReadProgram) (names all : List (List ℕ)) (verdict : Verdict) → read ≡ [] → names ≡ all → Free (OfHostPrograms request config read names) verdict
+    → Free (OfHostPrograms request config [] all) verdict
+all_left request config read names all verdict none is comes =
+    subst (λ (left : List (List ℕ)). Free (OfHostPrograms request config [] left) verdict) is (subst (λ (found : List ReadProgram). Free (OfHostPrograms request config found names) verdict) none comes)

@@ -34,7 +34,7 @@ use Rattle.persist_json.specs.JsonOf.{most_json}
 use Rattle.tea_base.specs.Limits.{most_snapshot}
 use Rattle.host_config.specs.Config.{config_of}
 use Rattle.host_config.specs.Programs.{programs_of}
-use Rattle.host_config.specs.declared.reading.SessionLine.{SessionLine}
+use Rattle.host_config.specs.declared.reading.Config.{Config}
 use Rattle.commands.specs.declared.hosting.ReadProgram.{ReadProgram}
 use Rattle.commands.specs.Work.{AsksNoLive, NamesNoJournal, RunsOn}
 use Rattle.command_hub.specs.declared.script.HubLine.{HubLine}
@@ -243,22 +243,22 @@ module _ (IsBad : Closing → Type 0) (not_fine : ¬ IsBad Fine) (not_refused : 
         behind_never (look_steps hosting.logs) (Free (Only (at_once (ByHosting hosting))))
         (free_never (Only (at_once (ByHosting hosting))) (only_never (at_once (ByHosting hosting)) (not_hosting hosting)))
 
-    host_ids_never : (ids : List SessionId) → Never (OfHostIds request ids)
-    host_ids_never ids =
-        let ready : Coming = OfHostReady (hosting_of request ids) in
+    host_ids_never : (on_demand : Bool) (ids : List SessionId) → Never (OfHostIds request on_demand ids)
+    host_ids_never on_demand ids =
+        let ready : Coming = OfHostReady (hosting_of request on_demand ids) in
         right_never input.Config (are_apart ids) (OfRight input.Address (is_address (encode_utf8_all request.address)) ready)
-        (right_never input.Address (is_address (encode_utf8_all request.address)) ready (host_ready_never (hosting_of request ids)))
+        (right_never input.Address (is_address (encode_utf8_all request.address)) ready (host_ready_never (hosting_of request on_demand ids)))
 
-    host_programs_never : (lines : List SessionLine) (read : List ReadProgram) (names : List (List ℕ)) → Never (OfHostPrograms request lines read names)
-    host_programs_never lines read [] = host_ids_never (host_ids read lines)
-    host_programs_never lines read (name ∷ names) =
+    host_programs_never : (config : Config) (read : List ReadProgram) (names : List (List ℕ)) → Never (OfHostPrograms request config read names)
+    host_programs_never config read [] = host_ids_never config.on_demand (host_ids read config.sessions)
+    host_programs_never config read (name ∷ names) =
         let more : List ℕ → List ReadProgram = λ bytes. read ++ record { name = name; text = bytes } ∷ [] in
-        file_never input.Program (ask_file name most_program_bytes) (λ bytes. OfProgram (λ tree. OfHostPrograms request lines (more bytes) names) bytes)
-        (λ bytes. program_never (λ tree. OfHostPrograms request lines (more bytes) names) bytes (λ tree. host_programs_never lines (more bytes) names))
+        file_never input.Program (ask_file name most_program_bytes) (λ bytes. OfProgram (λ tree. OfHostPrograms request config (more bytes) names) bytes)
+        (λ bytes. program_never (λ tree. OfHostPrograms request config (more bytes) names) bytes (λ tree. host_programs_never config (more bytes) names))
 
-    config_never : (lines : Option (List SessionLine)) → Never (OfConfig request lines)
+    config_never : (config : Option Config) → Never (OfConfig request config)
     config_never None = refused_never (refusal.Input input.Config)
-    config_never (Some lines) = host_programs_never lines [] (programs_of lines)
+    config_never (Some config) = host_programs_never config [] (programs_of config.sessions)
 
   -- what has to be so of a command that goes on
   abbrev pub GoesOnWell : Option Command → Type 0

@@ -48,7 +48,7 @@ use Rattle.command_hub.specs.declared.script.HubLine.{HubLine}
 use Rattle.command_hub.specs.HubScript.{hub_script_of}
 use Rattle.host_config.specs.Config.{config_of}
 use Rattle.host_config.specs.Programs.{programs_of}
-use Rattle.host_config.specs.declared.reading.SessionLine.{SessionLine}
+use Rattle.host_config.specs.declared.reading.Config.{Config}
 use Rattle.commands.specs.declared.hosting.ReadProgram.{ReadProgram}
 use Rattle.commands.specs.Verdict.{ByDrill, ByHosting, ByKeeping, ByLive, ByReflecting, ByRefusal, ByVisit, ByWant, Closing, Coming, Free, OfConfig, OfFile, OfFounded, OfGiven, OfHostIds, OfHostPrograms, OfHostReady, OfHubScript, OfInspect, OfInspectedLog, OfJoin, OfJournal, OfJson, OfKeyframes, OfLive, OfLiveBegun, OfLog, OfOpening, OfOwn, OfPersisted, OfProgram, OfQueries, OfRecorded, OfReflect, OfReflected, OfRight, OfScript, OfServed, OfSnapshot, OfTimeLine, OfTrace, OfTraced, OfTracedLog, OfTree, OfUnkept, OfView, OfViewScript, OfWords, Only, PlainHosting, PlainSource, Starts, ThenAll, Verdict, are_apart, ask_file, at_once, before, behind, count_verdict, first_source, founded, host_ids, hosting_of, hub_verdict, inspect_verdict, keeping_of, keeps_few, live_of, look_steps, most_config, most_log, most_queries, most_script, names_no_other, reflection_of, resumed_verdict, session_id_of, stamp_verdict, trace_verdict, visit_to, votes_verdict, OfLooked, OfReady, PlainReflection}
 
@@ -347,22 +347,22 @@ one_host_ready : (hosting : PlainHosting) → IsOneVerdict (OfHostReady hosting)
 one_host_ready hosting =
     one_behind (look_steps hosting.logs) (Free (Only (at_once (ByHosting hosting)))) (one_free (Only (at_once (ByHosting hosting))) (one_only (at_once (ByHosting hosting))))
 
-one_host_ids : (request : HostRequest) (ids : List SessionId) → IsOneVerdict (OfHostIds request ids)
-one_host_ids request ids =
-    let ready : Coming = OfHostReady (hosting_of request ids) in
+one_host_ids : (request : HostRequest) (on_demand : Bool) (ids : List SessionId) → IsOneVerdict (OfHostIds request on_demand ids)
+one_host_ids request on_demand ids =
+    let ready : Coming = OfHostReady (hosting_of request on_demand ids) in
     one_right input.Config (are_apart ids) (OfRight input.Address (is_address (encode_utf8_all request.address)) ready)
-    (one_right input.Address (is_address (encode_utf8_all request.address)) ready (one_host_ready (hosting_of request ids)))
+    (one_right input.Address (is_address (encode_utf8_all request.address)) ready (one_host_ready (hosting_of request on_demand ids)))
 
-one_host_programs : IsOneReading → (request : HostRequest) (lines : List SessionLine) (read : List ReadProgram) (names : List (List ℕ)) → IsOneVerdict (OfHostPrograms request lines read names)
-one_host_programs one request lines read [] = one_host_ids request (host_ids read lines)
-one_host_programs one request lines read (name ∷ names) =
+one_host_programs : IsOneReading → (request : HostRequest) (config : Config) (read : List ReadProgram) (names : List (List ℕ)) → IsOneVerdict (OfHostPrograms request config read names)
+one_host_programs one request config read [] = one_host_ids request config.on_demand (host_ids read config.sessions)
+one_host_programs one request config read (name ∷ names) =
     let more : List ℕ → List ReadProgram = λ bytes. read ++ record { name = name; text = bytes } ∷ [] in
-    one_file input.Program (ask_file name most_program_bytes) (λ bytes. OfProgram (λ tree. OfHostPrograms request lines (more bytes) names) bytes)
-    (λ bytes. one_program one (λ tree. OfHostPrograms request lines (more bytes) names) (λ tree. one_host_programs one request lines (more bytes) names) bytes)
+    one_file input.Program (ask_file name most_program_bytes) (λ bytes. OfProgram (λ tree. OfHostPrograms request config (more bytes) names) bytes)
+    (λ bytes. one_program one (λ tree. OfHostPrograms request config (more bytes) names) (λ tree. one_host_programs one request config (more bytes) names) bytes)
 
-one_config : IsOneReading → (request : HostRequest) (lines : Option (List SessionLine)) → IsOneVerdict (OfConfig request lines)
+one_config : IsOneReading → (request : HostRequest) (config : Option Config) → IsOneVerdict (OfConfig request config)
 one_config one request None = one_only (at_once (ByRefusal (refusal.Input input.Config)))
-one_config one request (Some lines) = one_host_programs one request lines [] (programs_of lines)
+one_config one request (Some config) = one_host_programs one request config [] (programs_of config.sessions)
 
 -- ---- the commands
 

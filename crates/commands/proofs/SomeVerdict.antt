@@ -47,7 +47,7 @@ use Rattle.command_hub.specs.HubScript.{hub_script_of}
 use Rattle.command_hub.specs.HubRun.{hub_puts, hub_run}
 use Rattle.host_config.specs.Config.{config_of}
 use Rattle.host_config.specs.Programs.{programs_of}
-use Rattle.host_config.specs.declared.reading.SessionLine.{SessionLine}
+use Rattle.host_config.specs.declared.reading.Config.{Config}
 use Rattle.commands.specs.declared.hosting.ReadProgram.{ReadProgram}
 use Rattle.commands.specs.Verdict.{ByDrill, ByHosting, ByKeeping, ByLive, ByReflecting, ByRefusal, ByVisit, ByWant, Coming, Fine, OfCommand, OfConfig, OfFile, OfFounded, OfGiven, OfHostIds, OfHostPrograms, OfHostReady, OfHubScript, OfInspect, OfInspectedLog, OfJoin, OfJournal, OfJson, OfKeyframes, OfLive, OfLiveBegun, OfLog, OfOpening, OfOwn, OfPersisted, OfProgram, OfQueries, OfRecorded, OfReflect, OfReflected, OfRight, OfScript, OfServed, OfSnapshot, OfTimeLine, OfTrace, OfTraced, OfTracedLog, OfTree, OfUnkept, OfView, OfViewScript, Only, PlainHosting, PlainKeeping, PlainLive, PlainReflection, PlainSource, PlainVisit, Starts, are_apart, ask_file, at_once, before, behind, count_verdict, fine, first_source, founded, host_ids, hosting_of, keeping_of, keeps_few, live_of, look_steps, most_config, most_log, most_queries, most_script, names_no_other, reflection_of, session_id_of, stamp_verdict, trace_verdict, visit_to, votes_verdict, OfLooked, OfReady}
 
@@ -300,22 +300,22 @@ host_ready_not_want told hosting only =
     let want : ByHosting hosting ≡ ByWant = only (behind (look_steps hosting.logs) (at_once (ByHosting hosting))) (at_once (ByHosting hosting), refl, inr refl) (looks_given told hosting.logs) in
     absurd cc
 
-host_ids_not_want : (told : Told) (request : HostRequest) (ids : List SessionId) → ¬ IsOnlyWant told (OfHostIds request ids)
-host_ids_not_want told request ids =
-    let ready : Coming = OfHostReady (hosting_of request ids) in
+host_ids_not_want : (told : Told) (request : HostRequest) (on_demand : Bool) (ids : List SessionId) → ¬ IsOnlyWant told (OfHostIds request on_demand ids)
+host_ids_not_want told request on_demand ids =
+    let ready : Coming = OfHostReady (hosting_of request on_demand ids) in
     right_not_want told input.Config (are_apart ids) (OfRight input.Address (is_address (encode_utf8_all request.address)) ready)
-    (right_not_want told input.Address (is_address (encode_utf8_all request.address)) ready (host_ready_not_want told (hosting_of request ids)))
+    (right_not_want told input.Address (is_address (encode_utf8_all request.address)) ready (host_ready_not_want told (hosting_of request on_demand ids)))
 
-host_programs_not_want : IsSomeReading → (told : Told) (request : HostRequest) (lines : List SessionLine) (read : List ReadProgram) (names : List (List ℕ)) → ¬ IsOnlyWant told (OfHostPrograms request lines read names)
-host_programs_not_want some told request lines read [] = host_ids_not_want told request (host_ids read lines)
-host_programs_not_want some told request lines read (name ∷ names) =
+host_programs_not_want : IsSomeReading → (told : Told) (request : HostRequest) (config : Config) (read : List ReadProgram) (names : List (List ℕ)) → ¬ IsOnlyWant told (OfHostPrograms request config read names)
+host_programs_not_want some told request config read [] = host_ids_not_want told request config.on_demand (host_ids read config.sessions)
+host_programs_not_want some told request config read (name ∷ names) =
     let more : List ℕ → List ReadProgram = λ bytes. read ++ record { name = name; text = bytes } ∷ [] in
-    file_not_want told input.Program (ask_file name most_program_bytes) (λ bytes. OfProgram (λ tree. OfHostPrograms request lines (more bytes) names) bytes)
-    (λ bytes. program_not_want some told (λ tree. OfHostPrograms request lines (more bytes) names) bytes (λ tree. host_programs_not_want some told request lines (more bytes) names))
+    file_not_want told input.Program (ask_file name most_program_bytes) (λ bytes. OfProgram (λ tree. OfHostPrograms request config (more bytes) names) bytes)
+    (λ bytes. program_not_want some told (λ tree. OfHostPrograms request config (more bytes) names) bytes (λ tree. host_programs_not_want some told request config (more bytes) names))
 
-config_not_want : IsSomeReading → (told : Told) (request : HostRequest) (lines : Option (List SessionLine)) → ¬ IsOnlyWant told (OfConfig request lines)
+config_not_want : IsSomeReading → (told : Told) (request : HostRequest) (config : Option Config) → ¬ IsOnlyWant told (OfConfig request config)
 config_not_want some told request None = refused_not_want told (OfConfig request None) (refusal.Input input.Config) refl
-config_not_want some told request (Some lines) = host_programs_not_want some told request lines [] (programs_of lines)
+config_not_want some told request (Some config) = host_programs_not_want some told request config [] (programs_of config.sessions)
 
 -- ---- the commands
 

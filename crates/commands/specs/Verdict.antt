@@ -1,5 +1,5 @@
 -- What comes of a command: the steps that it does, one after the other, and how it is closed.
-use Rattle.std.specs.Prelude.{◌≡◌, ◌⊎◌, ℕ, ℤ, ◌/◌, Bool, true, false, not, ◌&&◌, ◌||◌, nat_le, nat_lt, if◌then◌else◌, List, [], ◌∷◌, ◌++◌, length, map, encode_utf8_all, Option, Some, None}
+use Rattle.std.specs.Prelude.{◌≡◌, ◌⊎◌, ℕ, ℤ, ◌/◌, Bool, true, false, not, ◌&&◌, ◌||◌, nat_le, nat_lt, if◌then◌else◌, List, [], ◌∷◌, ◌++◌, drop, length, map, encode_utf8_all, Option, Some, None}
 use Rattle.std.specs.Str.{bytes_eq}
 use Rattle.tea_base.specs.declared.entry.Entry.{Entry}
 use Rattle.tea_base.specs.declared.entry.SessionId.{SessionId}
@@ -66,9 +66,10 @@ use Rattle.command_outcome.specs.declared.outcome.Put.{Put}
 use Rattle.command_reflect.specs.ReflectedSteps.{reflected_bytes, reflected_text}
 use Rattle.host_config.specs.Config.{config_of}
 use Rattle.host_config.specs.Programs.{programs_of}
+use Rattle.host_config.specs.declared.reading.Config.{Config}
 use Rattle.host_config.specs.declared.reading.SessionLine.{SessionLine}
 use Rattle.host_server.specs.declared.hosting.HostEnd.{HostEnd}
-use Rattle.command_host.specs.Hosting.{numbered_names, session_puts}
+use Rattle.command_host.specs.Hosting.{numbered_names, on_demand_names, session_puts}
 use Rattle.command_host.specs.HostedSteps.{hosted_text}
 use Rattle.commands.specs.declared.hosting.ReadProgram.{ReadProgram}
 use Rattle.command_drill.specs.DrilledSteps.{drilled_steps}
@@ -110,12 +111,15 @@ pub record PlainKeeping : Type 0 where
   pub opening : Option PlainStored
   pub log : Option (List ℕ)
 
--- what a host serves: the ids of its sessions, the address, how many links it accepts, and where it puts each session
+-- what a host serves: the ids of its listed sessions, whether sessions are made on demand, the address, how many links it accepts, where it puts
+-- each listed session, and with what the names of the others begin
 pub record PlainHosting : Type 0 where
   pub ids : List SessionId
+  pub on_demand : Bool
   pub address : List ℕ
   pub connections : ℕ
   pub logs : List (List ℕ)
+  pub prefix : List ℕ
 
 -- how a command is closed, behind all its steps
 pub data Closing : Type 0 where
@@ -585,56 +589,67 @@ abbrev pub are_apart : List SessionId → Bool
 are_apart [] = true
 are_apart (id ∷ ids) = not (is_among id ids) && are_apart ids
 
--- a host of the sessions of these ids; each is put under a name that ends in its number, from 1 on
-abbrev pub hosting_of : HostRequest → List SessionId → PlainHosting
-hosting_of request ids =
+-- a host of the sessions of these ids, each of which is put under a name that ends in its number, from 1 on
+abbrev pub hosting_of : HostRequest → Bool → List SessionId → PlainHosting
+hosting_of request on_demand ids =
     record {
       ids = ids;
+      on_demand = on_demand;
       address = request.address;
       connections = request.connections;
       logs = numbered_names request.logs 1 ids;
+      prefix = request.logs;
     }
 
 -- the run looks whether files can be put under these names
 abbrev pub look_steps : List (List ℕ) → List Step
 look_steps names = map Looks names
 
--- Sessions are ready to be hosted. Before anything listens the run looks whether each can be put. Memory may be wanted for that alone.
+-- Sessions are ready to be hosted. Before anything listens the run looks whether each listed one can be put. Memory may be wanted for that alone.
 abbrev pub OfHostReady : PlainHosting → Coming
 OfHostReady hosting = ThenAll (look_steps hosting.logs) (Free (Only (at_once (ByHosting hosting))))
 
 -- two sessions of one id are refused, and then the address is checked
-abbrev pub OfHostIds : HostRequest → List SessionId → Coming
-OfHostIds request ids =
+abbrev pub OfHostIds : HostRequest → Bool → List SessionId → Coming
+OfHostIds request on_demand ids =
     OfRight input.Config (are_apart ids)
-    (OfRight input.Address (is_address (encode_utf8_all request.address)) (OfHostReady (hosting_of request ids)))
+    (OfRight input.Address (is_address (encode_utf8_all request.address))
+    (OfHostReady (hosting_of request on_demand ids)))
 
 -- programs are read and checked, one after the other, and then the ids of the sessions are known
-abbrev pub OfHostPrograms : HostRequest → List SessionLine → List ReadProgram → List (List ℕ) → Coming
-OfHostPrograms request lines read [] = OfHostIds request (host_ids read lines)
-OfHostPrograms request lines read (name ∷ names) =
+abbrev pub OfHostPrograms : HostRequest → Config → List ReadProgram → List (List ℕ) → Coming
+OfHostPrograms request config read [] = OfHostIds request config.on_demand (host_ids read config.sessions)
+OfHostPrograms request config read (name ∷ names) =
     OfFile input.Program (ask_file name most_program_bytes)
-    (λ bytes. OfProgram (λ tree. OfHostPrograms request lines (read ++ record { name = name; text = bytes } ∷ []) names)
+    (λ bytes. OfProgram (λ tree. OfHostPrograms request config (read ++ record { name = name; text = bytes } ∷ []) names)
     bytes)
 
 -- what comes of a configuration, or of none: each program that it names is read once
-abbrev pub OfConfig : HostRequest → Option (List SessionLine) → Coming
+abbrev pub OfConfig : HostRequest → Option Config → Coming
 OfConfig request None = Only (at_once (ByRefusal (refusal.Input input.Config)))
-OfConfig request (Some lines) = OfHostPrograms request lines [] (programs_of lines)
+OfConfig request (Some config) = OfHostPrograms request config [] (programs_of config.sessions)
 
--- the text of sessions that were hosted is printed
-abbrev pub hosted_verdict : List HostEnd → List SessionState → Option NetFault → Verdict
-hosted_verdict ends sessions stopped =
-    record { steps = Prints (hosted_text ends sessions) ∷ []; closing = reflected_closing false stopped }
+-- the text of sessions that were hosted, so many of which were listed, is printed
+abbrev pub hosted_verdict : ℕ → List SessionId → List HostEnd → List SessionState → Option NetFault → Verdict
+hosted_verdict listed ids ends sessions stopped =
+    record { steps = Prints (hosted_text listed ids ends sessions) ∷ []; closing = reflected_closing false stopped }
 
 -- these files are put
 abbrev pub put_steps : List Put → List Step
 put_steps puts = map (λ put. Puts put.name put.bytes) puts
 
--- What comes of sessions after their host. Each is put first, and want of memory comes in place of no put. Then their text is printed, and only that may want memory.
-abbrev pub OfHostEnds : List (List ℕ) → List HostEnd → List SessionState → Option NetFault → Coming
-OfHostEnds logs ends sessions stopped =
-    ThenAll (put_steps (session_puts logs sessions)) (Free (Only (hosted_verdict ends sessions stopped)))
+-- those of these sessions that were made on demand are put, under names that end in their ids
+abbrev pub made_puts : ℕ → List ℕ → List SessionId → List SessionState → List Put
+made_puts listed prefix ids sessions = session_puts (on_demand_names prefix (drop listed ids)) (drop listed sessions)
+
+-- What comes of sessions after their host. Each listed one is put first, and want of memory comes in place of no put of these. Then those that were
+-- made on demand are put, and only their names may want memory. Then the text of all is printed, which may want it too.
+abbrev pub OfHostEnds : List (List ℕ) → List ℕ → List SessionId → List HostEnd → List SessionState → Option NetFault → Coming
+OfHostEnds logs prefix ids ends sessions stopped =
+    let listed = length logs in
+    ThenAll (put_steps (session_puts logs sessions)) (Free
+    (ThenAll (put_steps (made_puts listed prefix ids sessions)) (Free
+    (Only (hosted_verdict listed ids ends sessions stopped)))))
 
 -- ---- drill
 

@@ -32,7 +32,7 @@ use Rattle.commands.specs.declared.hosting.HostProgramWait.{HostProgramWait}
 use Rattle.commands.specs.declared.hosting.HostWait.TheVariants as host_wait
 use Rattle.host_config.specs.Config.{AreFew, AreNamed, config_of, most_sessions}
 use Rattle.command_host.specs.declared.hosting.Hosting.{Hosting}
-use Rattle.command_host.specs.Hosting.{log_names}
+use Rattle.command_host.specs.Hosting.{log_names, rooms_for}
 use Rattle.command_stamp.specs.Script.{script_of}
 use Rattle.command_hub.specs.HubScript.{hub_script_of}
 use Rattle.command_inspect.specs.Queries.{queries_of}
@@ -219,7 +219,7 @@ next_of (waiting.Reflect (reflect_wait.Log wait)) bytes = OfLog (OfReflected wai
 next_of (waiting.Reflect (reflect_wait.Founding wait)) bytes = OfLog (OfFoundingLog (plain_keeping wait.keeping)) bytes
 next_of (waiting.Host (host_wait.Config request)) bytes = OfConfig request (config_of bytes)
 next_of (waiting.Host (host_wait.Program wait)) bytes =
-    OfProgram (λ tree. OfHostPrograms wait.request wait.lines (wait.read ++ record { name = wait.program; text = bytes }
+    OfProgram (λ tree. OfHostPrograms wait.request wait.config (wait.read ++ record { name = wait.program; text = bytes }
     ∷ []) wait.later.items) bytes
 
 -- what comes of the files that are read from here on
@@ -258,7 +258,7 @@ files_left (waiting.Host (host_wait.Program wait)) = length wait.later.items + 1
 
 -- a host's words are within their bounds, and its sessions have names, and are not none and not too many
 abbrev pub IsBoundedHostWait : HostProgramWait → Type 0
-IsBoundedHostWait wait = IsBoundedHost wait.request × AreNamed wait.lines × AreFew wait.lines
+IsBoundedHostWait wait = IsBoundedHost wait.request × AreNamed wait.config.sessions × AreFew wait.config.sessions
 
 -- its words are within their bounds
 abbrev pub IsBoundedWait : Waiting → Type 0
@@ -322,18 +322,26 @@ plain_reflection reflection = record {
 abbrev pub plain_hosting : Hosting → PlainHosting
 plain_hosting hosting = record {
   ids = hosting.ids;
+  on_demand = hosting.on_demand;
   address = hosting.address;
   connections = hosting.connections;
   logs = log_names hosting.logs;
+  prefix = hosting.prefix;
 }
 
 -- sessions are not none, and not more than a host may have
 abbrev pub AreHosted : List SessionId → Type 0
 AreHosted ids = (1 ≤ length ids) × (length ids ≤ most_sessions)
 
--- a host accepts from 1 to the most links, and has such sessions
+-- each listed session has its place, and memory is taken for each one that may be made on demand
+abbrev pub HasRooms : Hosting → Type 0
+HasRooms hosting =
+    (length hosting.logs ≡ length hosting.ids)
+    × (length hosting.rooms ≡ rooms_for hosting.on_demand (length hosting.ids))
+
+-- a host accepts from 1 to the most links, has such sessions, and has memory for all that it may put
 abbrev pub IsBoundedHosting : Hosting → Type 0
-IsBoundedHosting hosting = AreConnections hosting.connections × AreHosted hosting.ids
+IsBoundedHosting hosting = AreConnections hosting.connections × AreHosted hosting.ids × HasRooms hosting
 
 -- a time line is that of a recorded session, keeps a world after each so many entries, and not too many worlds
 pub record IsTimeLineOf (recording : Recording) (every : ℕ) (line : LineView) : Type 0 where

@@ -5,16 +5,17 @@ ghost use Rattle.command_words.specs.Bounds.{IsBoundedHost};
 ghost use Rattle.host_config.specs.Config.{AreFew, AreNamed, HasName, config_of, most_sessions};
 ghost use Rattle.host_config.specs.Programs.{programs_of};
 ghost use Rattle.commands.specs.Verdict.{Free, OfConfig, OfHostIds, OfHostPrograms, OfHostReady, OfProgram, OfRight, are_apart, host_id, host_ids, hosting_of, is_among};
-ghost use Rattle.commands.specs.Work.{AreHosted, IsBoundedNext, IsBoundedWait, Leads, file_of, files_left, input_of, next_of, reads_left};
+ghost use Rattle.commands.specs.Work.{AreHosted, IsBoundedHosting, IsBoundedNext, IsBoundedWait, Leads, file_of, files_left, input_of, next_of, plain_hosting, reads_left};
 ghost use Rattle.commands.specs.declared.hosting.HostWait.TheVariants as host_wait;
 ghost use Rattle.commands.specs.declared.work.Waiting.TheVariants as waiting;
 ghost use Rattle.command_outcome.specs.declared.outcome.Input.TheVariants as input;
 
 use crate::work::{Next, Waiting};
-use command_host::{Hosting, SessionIds, log_places};
+use command_host::{Hosting, log_places, rooms_for};
 use command_outcome::{CommandRefusal, Input, ProgramFault, read_program};
 use command_words::{HostRequest, is_address};
-use host_config::{SessionLine, SessionLines, programs_of, read_config};
+use host_config::{Config, SessionLine, programs_of, read_config};
+use host_server::SessionIds;
 use model_solved::is_name;
 use model_value::Value;
 use snapshot_codec::session_id;
@@ -36,8 +37,8 @@ pub type ReadPrograms = List<ReadProgram>;
 #[derive(Drop)]
 pub struct HostProgramWait {
     pub request: HostRequest,
-    /// The sessions of its configuration.
-    pub lines: SessionLines,
+    /// What its configuration says.
+    pub config: Config,
     /// The programs that were read.
     pub read: ReadPrograms,
     /// The program that it waits for.
@@ -109,26 +110,44 @@ fn are_apart(ids: &[SessionId]) -> bool
 }
 
 /// The sessions that are to be hosted. The memory for their files is taken here, before anything listens.
-fn ready(alloc: Global, request: HostRequest, ids: SessionIds) -> Next
+fn hosting_of(
+    alloc: Global,
+    request: HostRequest,
+    on_demand: bool,
+    ids: SessionIds,
+) -> Result<Hosting, WantOfMemory>
     requires words { IsBoundedHost request }
     requires ids { AreHosted ids }
-    ensures leads { Leads result (Free (OfHostReady (hosting_of request ids))) }
-    ensures bounded { IsBoundedNext result }
-    ensures fewer { reads_left result < 1 }
+    ensures plain { IfOk result (λ hosting. plain_hosting hosting ≡ hosting_of request on_demand ids) }
+    ensures bounded { IfOk result IsBoundedHosting }
 {
     let HostRequest {
         config: _,
         address,
         connections,
-        logs,
+        logs: prefix,
     } = request;
-    match log_places(alloc, &logs, ids.as_slice()) {
-        Ok(logs) => Next::Hosts(Hosting {
-            ids,
-            address,
-            connections,
-            logs,
-        }),
+    Ok(Hosting {
+        logs: log_places(alloc, &prefix, ids.as_slice())?,
+        rooms: rooms_for(alloc, on_demand, ids.len())?,
+        ids,
+        on_demand,
+        address,
+        connections,
+        prefix,
+    })
+}
+
+/// What comes of a host whose words and sessions are right.
+fn ready(alloc: Global, request: HostRequest, on_demand: bool, ids: SessionIds) -> Next
+    requires words { IsBoundedHost request }
+    requires ids { AreHosted ids }
+    ensures leads { Leads result (Free (OfHostReady (hosting_of request on_demand ids))) }
+    ensures bounded { IsBoundedNext result }
+    ensures fewer { reads_left result < 1 }
+{
+    match hosting_of(alloc, request, on_demand, ids) {
+        Ok(hosting) => Next::Hosts(hosting),
         Err(WantOfMemory) => Next::WantOfMemory,
     }
 }
@@ -137,50 +156,52 @@ fn ready(alloc: Global, request: HostRequest, ids: SessionIds) -> Next
 fn answer_address(
     alloc: Global,
     request: HostRequest,
+    on_demand: bool,
     ids: SessionIds,
 ) -> Result<Next, WantOfMemory>
     requires words { IsBoundedHost request }
     requires ids { AreHosted ids }
     ensures leads { IfOk result (λ step.
         Leads step (Free (OfRight input.Address (is_address (encode_utf8_all request.address))
-        (OfHostReady (hosting_of request ids))))) }
+        (OfHostReady (hosting_of request on_demand ids))))) }
     ensures bounded { IfOk result IsBoundedNext }
     ensures fewer { IfOk result (λ step. reads_left step < 1) }
 {
     if !is_address(alloc, request.address.as_str())? {
         return Ok(Next::Refuses(CommandRefusal::Input(Input::Address)));
     }
-    Ok(ready(alloc, request, ids))
+    Ok(ready(alloc, request, on_demand, ids))
 }
 
 /// What comes of a host whose ids are known: no two of them may be the same.
-fn answer_ids(alloc: Global, request: HostRequest, ids: SessionIds) -> Next
+fn answer_ids(alloc: Global, request: HostRequest, on_demand: bool, ids: SessionIds) -> Next
     requires words { IsBoundedHost request }
     requires ids { AreHosted ids }
-    ensures leads { Leads result (Free (OfHostIds request ids)) }
+    ensures leads { Leads result (Free (OfHostIds request on_demand ids)) }
     ensures bounded { IsBoundedNext result }
     ensures fewer { reads_left result < 1 }
 {
     if !are_apart(ids.as_slice()) {
         return Next::Refuses(CommandRefusal::Input(Input::Config));
     }
-    match answer_address(alloc, request, ids) {
+    match answer_address(alloc, request, on_demand, ids) {
         Ok(next) => next,
         Err(WantOfMemory) => Next::WantOfMemory,
     }
 }
 
 /// What comes of a host that has read its programs.
-fn known(alloc: Global, request: HostRequest, lines: &[SessionLine], read: &[ReadProgram]) -> Next
+fn known(alloc: Global, request: HostRequest, config: &Config, read: &[ReadProgram]) -> Next
     requires words { IsBoundedHost request }
-    requires named { AreNamed lines.now }
-    requires few { AreFew lines.now }
-    ensures leads { Leads result (Free (OfHostIds request (host_ids read.now lines.now))) }
+    requires named { AreNamed config.now.sessions }
+    requires few { AreFew config.now.sessions }
+    ensures leads { Leads result
+        (Free (OfHostIds request config.now.on_demand (host_ids read.now config.now.sessions))) }
     ensures bounded { IsBoundedNext result }
     ensures fewer { reads_left result < 1 }
 {
-    match host_ids(alloc, read, lines) {
-        Ok(ids) => answer_ids(alloc, request, ids),
+    match host_ids(alloc, read, config.sessions.as_slice()) {
+        Ok(ids) => answer_ids(alloc, request, config.on_demand, ids),
         Err(WantOfMemory) => Next::WantOfMemory,
     }
 }
@@ -189,26 +210,26 @@ fn known(alloc: Global, request: HostRequest, lines: &[SessionLine], read: &[Rea
 fn next_program(
     alloc: Global,
     request: HostRequest,
-    lines: SessionLines,
+    config: Config,
     read: ReadPrograms,
     mut names: VecDeque<Text>,
 ) -> Next
     requires words { IsBoundedHost request }
-    requires named { AreNamed lines }
-    requires few { AreFew lines }
-    ensures leads { Leads result (Free (OfHostPrograms request lines read names.items)) }
+    requires named { AreNamed config.sessions }
+    requires few { AreFew config.sessions }
+    ensures leads { Leads result (Free (OfHostPrograms request config read names.items)) }
     ensures bounded { IsBoundedNext result }
     ensures fewer { reads_left result < length names.items + 1 }
 {
     match names.pop_front() {
         Some(program) => Next::Reads(Waiting::Host(HostWait::Program(HostProgramWait {
             request,
-            lines,
+            config,
             read,
             program,
             later: names,
         }))),
-        None => known(alloc, request, lines.as_slice(), read.as_slice()),
+        None => known(alloc, request, &config, read.as_slice()),
     }
 }
 
@@ -216,14 +237,14 @@ fn next_program(
 fn read_on(alloc: Global, wait: HostProgramWait, text: Blob) -> Next
     requires { IsBoundedWait (waiting.Host (host_wait.Program wait)) }
     ensures leads { Leads result
-        (Free (OfHostPrograms wait.request wait.lines (wait.read ++ record { name = wait.program; text = text }
+        (Free (OfHostPrograms wait.request wait.config (wait.read ++ record { name = wait.program; text = text }
         ∷ []) wait.later.items)) }
     ensures bounded { IsBoundedNext result }
     ensures fewer { reads_left result < length wait.later.items + 1 }
 {
     let HostProgramWait {
         request,
-        lines,
+        config,
         mut read,
         program,
         later,
@@ -233,7 +254,7 @@ fn read_on(alloc: Global, wait: HostProgramWait, text: Blob) -> Next
         text,
     };
     match read.push(found) {
-        Ok(()) => next_program(alloc, request, lines, read, later),
+        Ok(()) => next_program(alloc, request, config, read, later),
         Err(WantOfMemory) => Next::WantOfMemory,
     }
 }
@@ -242,7 +263,7 @@ fn read_on(alloc: Global, wait: HostProgramWait, text: Blob) -> Next
 fn take_program(alloc: Global, wait: HostProgramWait, text: Blob) -> Next
     requires { IsBoundedWait (waiting.Host (host_wait.Program wait)) }
     ensures leads { Leads result
-        (Free (OfProgram (λ tree. OfHostPrograms wait.request wait.lines (wait.read ++ record {
+        (Free (OfProgram (λ tree. OfHostPrograms wait.request wait.config (wait.read ++ record {
           name = wait.program;
           text = text;
         } ∷ []) wait.later.items) text)) }
@@ -257,18 +278,18 @@ fn take_program(alloc: Global, wait: HostProgramWait, text: Blob) -> Next
 }
 
 /// What comes of a host that has its configuration: the programs of its sessions are read.
-fn begin(alloc: Global, request: HostRequest, lines: SessionLines) -> Next
+fn begin(alloc: Global, request: HostRequest, config: Config) -> Next
     requires words { IsBoundedHost request }
-    requires named { AreNamed lines }
-    requires few { AreFew lines }
-    ensures leads { Leads result (Free (OfHostPrograms request lines [] (programs_of lines))) }
+    requires named { AreNamed config.sessions }
+    requires few { AreFew config.sessions }
+    ensures leads { Leads result (Free (OfHostPrograms request config [] (programs_of config.sessions))) }
     ensures bounded { IsBoundedNext result }
     ensures fewer { reads_left result < most_sessions + 1 }
 {
-    match programs_of(alloc, lines.as_slice()) {
+    match programs_of(alloc, config.sessions.as_slice()) {
         Ok(names) => {
             let names = VecDeque::from(names.into_vec());
-            next_program(alloc, request, lines, ReadPrograms::new(alloc), names)
+            next_program(alloc, request, config, ReadPrograms::new(alloc), names)
         }
         Err(WantOfMemory) => Next::WantOfMemory,
     }
@@ -282,7 +303,7 @@ fn take_config(alloc: Global, request: HostRequest, bytes: &[u8]) -> Next
     ensures fewer { reads_left result < most_sessions + 1 }
 {
     match read_config(alloc, bytes) {
-        Ok(Some(lines)) => begin(alloc, request, lines),
+        Ok(Some(config)) => begin(alloc, request, config),
         Ok(None) => Next::Refuses(CommandRefusal::Input(Input::Config)),
         Err(WantOfMemory) => Next::WantOfMemory,
     }

@@ -1,5 +1,6 @@
 -- A command whose inputs are right, and no call of which has failed, is done, or runs out of memory.
 use Rattle.std.proofs.Common.{◌≡◌, ◌⊎◌, inl, inr, ℕ, ℤ, ◌≤◌, Bool, true, false, List, [], ◌∷◌, ◌++◌, length, replicate, Option, Some, None, Result, Ok, Err, refl, sym, subst}
+use Rattle.tea_base.specs.declared.entry.SessionId.{SessionId}
 use Rattle.tea_base.specs.declared.want.WantOfMemory.{WantOfMemory}
 use Rattle.tea_io.specs.Told.{Rose}
 use Rattle.run_steps.specs.Steps.{Step, Puts, Prints, Looks}
@@ -32,7 +33,7 @@ use Rattle.drill.specs.Drill.{drill_id}
 use Rattle.drill.specs.Ending.{root_total}
 use Rattle.drill.specs.declared.report.DrillReport.{DrillReport}
 use Rattle.commands.specs.Laws.{AreAlike, IsFunction, TellsPlace}
-use Rattle.commands.specs.Verdict.{ByDrill, ByHosting, ByReflecting, ByVisit, ByWant, Closing, Coming, Comes, Fine, Free, OfEnds, OfHostEnds, OfWords, Only, PlainHosting, PlainReflection, PlainVisit, Verdict, behind, fine, put_steps}
+use Rattle.commands.specs.Verdict.{ByDrill, ByHosting, ByReflecting, ByVisit, ByWant, Closing, Coming, Comes, Fine, Free, OfEnds, OfHostEnds, OfWords, Only, PlainHosting, PlainReflection, PlainVisit, ThenAll, Verdict, fine, made_puts, put_steps}
 use Rattle.commands.specs.Work.{AsksNoLive, NamesNoJournal}
 use Rattle.commands.proofs.NetLaws.{never_keeps, never_lives}
 use Rattle.journal_store.specs.Stores.{StoresTell}
@@ -100,23 +101,42 @@ reflected_alike (Some name) ends session stopped verdict fine (rest, is, comes) 
     subst (λ (v : Verdict). AreAlike (reflected_steps (Some name) ends session) Fine v.steps v.closing) (sym is) (refl, text_alike (reflected_text ends session) stopped rest fine comes)
 
 -- what is put and printed of sessions that were hosted
-abbrev hosted_steps : List (List ℕ) → List HostEnd → List SessionState → List Step
-hosted_steps logs ends sessions = put_steps (session_puts logs sessions) ++ Prints (hosted_text ends sessions) ∷ []
+abbrev hosted_steps : List (List ℕ) → List ℕ → List SessionId → List HostEnd → List SessionState → List Step
+hosted_steps logs prefix ids ends sessions =
+    put_steps (session_puts logs sessions) ++ (put_steps (made_puts (length logs) prefix ids sessions) ++ Prints (hosted_text (length logs) ids ends sessions) ∷ [])
 
-puts_give : (puts : List Put) (text : List ℕ) → IsGiving (put_steps puts ++ Prints text ∷ [])
-puts_give [] text = tt
-puts_give (put ∷ puts) text = puts_give puts text
+puts_give : (puts : List Put) (steps : List Step) → IsGiving steps → IsGiving (put_steps puts ++ steps)
+puts_give [] steps gives = gives
+puts_give (put ∷ puts) steps gives = puts_give puts steps gives
+
+hosted_gives : (logs : List (List ℕ)) (prefix : List ℕ) (ids : List SessionId) (ends : List HostEnd) (sessions : List SessionState) → IsGiving (hosted_steps logs prefix ids ends sessions)
+hosted_gives logs prefix ids ends sessions =
+    let made = made_puts (length logs) prefix ids sessions in
+    let printed : List Step = Prints (hosted_text (length logs) ids ends sessions) ∷ [] in
+    puts_give (session_puts logs sessions) (put_steps made ++ printed) (puts_give made printed tt)
 
 puts_alike : (puts : List Put) (steps more : List Step) (closing : Closing) → AreAlike steps Fine more closing → AreAlike (put_steps puts ++ steps) Fine (put_steps puts ++ more) closing
 puts_alike [] steps more closing alike = alike
 puts_alike (put ∷ puts) steps more closing alike = (refl, puts_alike puts steps more closing alike)
 
+-- those that were made on demand were put, and the text was printed
+made_alike
+    : (puts : List Put) (text : List ℕ) (stopped : Option NetFault) (verdict : Verdict) → (stopped ≡ Some net_fault.Failed → ⊥) → Free (ThenAll (put_steps puts) (Free (Only (closed_with text false stopped)))) verdict
+    → AreAlike (put_steps puts ++ Prints text ∷ []) Fine verdict.steps verdict.closing
+made_alike puts text stopped verdict fine (inl want) =
+    subst (λ (v : Verdict). AreAlike (put_steps puts ++ Prints text ∷ []) Fine v.steps v.closing) (sym want) (want_alike (put_steps puts ++ Prints text ∷ []))
+made_alike puts text stopped verdict fine (inr (rest, is, comes)) =
+    subst (λ (v : Verdict). AreAlike (put_steps puts ++ Prints text ∷ []) Fine v.steps v.closing) (sym is)
+    (puts_alike puts (Prints text ∷ []) rest.steps rest.closing (text_alike text stopped rest fine comes))
+
 hosted_alike
-    : (logs : List (List ℕ)) (ends : List HostEnd) (sessions : List SessionState) (stopped : Option NetFault) (verdict : Verdict) → (stopped ≡ Some net_fault.Failed → ⊥) → OfHostEnds logs ends sessions stopped verdict
-    → AreAlike (hosted_steps logs ends sessions) Fine verdict.steps verdict.closing
-hosted_alike logs ends sessions stopped verdict fine (rest, is, comes) =
-    subst (λ (v : Verdict). AreAlike (hosted_steps logs ends sessions) Fine v.steps v.closing) (sym is)
-    (puts_alike (session_puts logs sessions) (Prints (hosted_text ends sessions) ∷ []) rest.steps rest.closing (text_alike (hosted_text ends sessions) stopped rest fine comes))
+    : (logs : List (List ℕ)) (prefix : List ℕ) (ids : List SessionId) (ends : List HostEnd) (sessions : List SessionState) (stopped : Option NetFault) (verdict : Verdict) → (stopped ≡ Some net_fault.Failed → ⊥)
+    → OfHostEnds logs prefix ids ends sessions stopped verdict → AreAlike (hosted_steps logs prefix ids ends sessions) Fine verdict.steps verdict.closing
+hosted_alike logs prefix ids ends sessions stopped verdict fine (rest, is, comes) =
+    let made = made_puts (length logs) prefix ids sessions in
+    let text = hosted_text (length logs) ids ends sessions in
+    subst (λ (v : Verdict). AreAlike (hosted_steps logs prefix ids ends sessions) Fine v.steps v.closing) (sym is)
+    (puts_alike (session_puts logs sessions) (put_steps made ++ Prints text ∷ []) rest.steps rest.closing (made_alike made text stopped rest fine comes))
 
 -- and of a drill
 
@@ -267,13 +287,13 @@ module _ {F W N L : Type 0} (files : FilesTell F) (out : OutputTells W) (net : N
 
     hosted
         : (hosting : PlainHosting) (answer : Result Hosted ServeFault) → ServesHost gives (outside_tells files out net links) hosting answer ready served
-        → (ran : RanBySteps (outside_tells files out net links) (OfHosted hosting.logs answer) served new result) → CountsStay files out net served new → IsDone result
+        → (ran : RanBySteps (outside_tells files out net links) (OfHosted hosting.logs hosting.prefix answer) served new result) → CountsStay files out net served new → IsDone result
     hosted hosting (Ok host) serves ran last =
-        told (hosted_steps hosting.logs host.ends host.sessions) host.stopped (OfHosted hosting.logs (Ok host)) (puts_give (session_puts hosting.logs host.sessions) (hosted_text host.ends host.sessions))
-        (λ v fine comes. hosted_alike hosting.logs host.ends host.sessions host.stopped v fine comes) serves.0.faults serves.1 ran last
+        told (hosted_steps hosting.logs hosting.prefix host.ids host.ends host.sessions) host.stopped (OfHosted hosting.logs hosting.prefix (Ok host)) (hosted_gives hosting.logs hosting.prefix host.ids host.ends host.sessions)
+        (λ v fine comes. hosted_alike hosting.logs hosting.prefix host.ids host.ends host.sessions host.stopped v fine comes) serves.0.faults serves.1 ran last
     hosted hosting (Err serve_fault.ListenFault) serves ran last = absurd (net_is_fine last serves.0.faults)
     hosted hosting (Err serve_fault.WantOfMemory) serves ran last =
-        done_giving [] (OfHosted hosting.logs (Err serve_fault.WantOfMemory)) served new result ran tt (inl ran.course.comes) (none_behind serves.0.faults serves.1)
+        done_giving [] (OfHosted hosting.logs hosting.prefix (Err serve_fault.WantOfMemory)) served new result ran tt (inl ran.course.comes) (none_behind serves.0.faults serves.1)
 
   as_reflector
       : (gives : ℕ → Type 0) (coming : Coming) (old new : Outside F W N L) (result : Status) → RanAsReflector gives (outside_tells files out net links) coming old new result → NoneFailed files out net old new → IsDone result

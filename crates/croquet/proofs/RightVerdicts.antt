@@ -49,7 +49,7 @@ use Rattle.command_hub.specs.HubScript.{hub_script_of}
 use Rattle.command_hub.specs.HubRun.{hub_puts, hub_run}
 use Rattle.host_config.specs.Config.{config_of}
 use Rattle.host_config.specs.Programs.{programs_of}
-use Rattle.host_config.specs.declared.reading.SessionLine.{SessionLine}
+use Rattle.host_config.specs.declared.reading.Config.{Config}
 use Rattle.commands.specs.declared.hosting.ReadProgram.{ReadProgram}
 use Rattle.commands.specs.Verdict.{ByDrill, ByHosting, ByKeeping, ByReflecting, ByVisit, Closing, Coming, Fine, OfConfig, OfFile, OfHostIds, OfHostPrograms, OfHostReady, OfInspectedLog, OfInspect, OfJoin, OfJournal, OfKeyframes, OfOpening, OfProgram, OfQueries, OfReflect, OfRight, OfScript, OfServed, OfSnapshot, OfLog, OfOwn, OfReflected, IsLog, PlainHosting, PlainReflection, PlainSource, first_source, names_no_other, trace_verdict, OfTimeLine, OfTrace, OfTraced, OfTracedLog, OfTree, OfUnkept, OfView, OfViewScript, OfWords, Only, Starts, Verdict, are_apart, behind, host_ids, hosting_of, look_steps, most_config, OfFounded, OfJson, OfPersisted, OfRecorded, ask_file, at_once, before, count_verdict, fine, founded, inspect_verdict, keeping_of, keeps_few, most_queries, most_script, reflection_of, session_id_of, stamp_verdict, visit_to, votes_verdict, world_puts, most_log, OfHubScript, OfLooked, OfReady}
 use Rattle.commands.proofs.Agreement.{late_verdict}
@@ -272,29 +272,30 @@ module _ {F : Type 0} (files : FilesTell F) (old : F) where
       (persisted_right ClosesWell request.persisted persisted next
       (unkept_right request id none (opening_right ClosesWell (IsOwn id) request.from (OfReflected request id) opening refl (reflected_right request id)))))
 
-  host_ids_right : (request : HostRequest) (ids : List SessionId) → are_apart ids ≡ true → NamesAddress request.address → ComesRight (files.held old) ClosesWell (OfHostIds request ids)
-  host_ids_right request ids apart address =
-      let ready : Coming = OfHostReady (hosting_of request ids) in
+  host_ids_right : (request : HostRequest) (on_demand : Bool) (ids : List SessionId) → are_apart ids ≡ true → NamesAddress request.address → ComesRight (files.held old) ClosesWell (OfHostIds request on_demand ids)
+  host_ids_right request on_demand ids apart address =
+      let hosting = hosting_of request on_demand ids in
+      let ready : Coming = OfHostReady hosting in
       let addressed : Coming = OfRight input.Address (is_address (encode_utf8_all request.address)) ready in
       right_right (files.held old) ClosesWell input.Config (are_apart ids) addressed apart
-      (right_right (files.held old) ClosesWell input.Address (is_address (encode_utf8_all request.address)) ready address (host_ready_right (files.held old) (hosting_of request ids)))
+      (right_right (files.held old) ClosesWell input.Address (is_address (encode_utf8_all request.address)) ready address (host_ready_right (files.held old) hosting))
 
   host_programs_right
-      : (request : HostRequest) (lines : List SessionLine) (read : List ReadProgram) (names : List (List ℕ)) (holds : HoldPrograms files old names) → are_apart (host_ids (read ++ programs_in files old names holds) lines) ≡ true
-      → NamesAddress request.address → ComesRight (files.held old) ClosesWell (OfHostPrograms request lines read names)
-  host_programs_right request lines read [] holds apart address =
-      host_ids_right request (host_ids read lines) (subst (λ (all : List ReadProgram). are_apart (host_ids all lines) ≡ true) (append-nil read) apart) address
-  host_programs_right request lines read (name ∷ names) holds apart address =
+      : (request : HostRequest) (config : Config) (read : List ReadProgram) (names : List (List ℕ)) (holds : HoldPrograms files old names)
+      → are_apart (host_ids (read ++ programs_in files old names holds) config.sessions) ≡ true → NamesAddress request.address → ComesRight (files.held old) ClosesWell (OfHostPrograms request config read names)
+  host_programs_right request config read [] holds apart address =
+      host_ids_right request config.on_demand (host_ids read config.sessions) (subst (λ (all : List ReadProgram). are_apart (host_ids all config.sessions) ≡ true) (append-nil read) apart) address
+  host_programs_right request config read (name ∷ names) holds apart address =
       let one : ReadProgram = record { name = name; text = holds.0.bytes } in
-      read_program ClosesWell name holds.0 (λ bytes tree. OfHostPrograms request lines (read ++ record { name = name; text = bytes } ∷ []) names)
-      (host_programs_right request lines (read ++ one ∷ []) names holds.1
-      (subst (λ (all : List ReadProgram). are_apart (host_ids all lines) ≡ true) (sym (append_assoc read (one ∷ []) (programs_in files old names holds.1))) apart) address)
+      read_program ClosesWell name holds.0 (λ bytes tree. OfHostPrograms request config (read ++ record { name = name; text = bytes } ∷ []) names)
+      (host_programs_right request config (read ++ one ∷ []) names holds.1
+      (subst (λ (all : List ReadProgram). are_apart (host_ids all config.sessions) ≡ true) (sym (append_assoc read (one ∷ []) (programs_in files old names holds.1))) apart) address)
 
   config_right
-      : (request : HostRequest) (config : Option (List SessionLine)) (lines : List SessionLine) → config ≡ Some lines → (holds : HoldPrograms files old (programs_of lines))
-      → are_apart (host_ids (programs_in files old (programs_of lines) holds) lines) ≡ true → NamesAddress request.address → ComesRight (files.held old) ClosesWell (OfConfig request config)
-  config_right request config lines is holds apart address =
-      subst (λ (read : Option (List SessionLine)). ComesRight (files.held old) ClosesWell (OfConfig request read)) (sym is) (host_programs_right request lines [] (programs_of lines) holds apart address)
+      : (request : HostRequest) (read : Option Config) (config : Config) → read ≡ Some config → (holds : HoldPrograms files old (programs_of config.sessions))
+      → are_apart (host_ids (programs_in files old (programs_of config.sessions) holds) config.sessions) ≡ true → NamesAddress request.address → ComesRight (files.held old) ClosesWell (OfConfig request read)
+  config_right request read config is holds apart address =
+      subst (λ (some : Option Config). ComesRight (files.held old) ClosesWell (OfConfig request some)) (sym is) (host_programs_right request config [] (programs_of config.sessions) holds apart address)
 
   view_script_right : (request : JoinRequest) (text : List ℕ) (tree : ProgramTree) (script : Option (List PlainLine)) (lines : List PlainLine) → script ≡ Some lines → HoldsPersisted files old request.persisted
       → ComesRight (files.held old) ClosesByVisit (OfViewScript request text tree script)

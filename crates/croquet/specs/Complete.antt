@@ -29,7 +29,7 @@ use Rattle.command_hub.specs.HubScript.{hub_script_of}
 use Rattle.command_stamp.specs.Script.{script_of}
 use Rattle.host_config.specs.Config.{config_of}
 use Rattle.host_config.specs.Programs.{programs_of}
-use Rattle.host_config.specs.declared.reading.SessionLine.{SessionLine}
+use Rattle.host_config.specs.declared.reading.Config.{Config}
 use Rattle.commands.specs.declared.hosting.ReadProgram.{ReadProgram}
 use Rattle.time_line.specs.Keyframes.{most_frames}
 use Rattle.command_inspect.specs.declared.query.Query.{Query}
@@ -141,7 +141,7 @@ pub record HoldsTrace {F : Type 0} (files : FilesTell F) (old : F) (request : Tr
 
 -- the configuration of a host
 abbrev pub IsConfigText : List ℕ → Type 0
-IsConfigText bytes = (lines : List SessionLine) × (config_of bytes ≡ Some lines)
+IsConfigText bytes = (config : Config) × (config_of bytes ≡ Some config)
 
 -- each of these names is that of a program
 abbrev pub HoldPrograms : {F : Type 0} → FilesTell F → F → List (List ℕ) → Type 0
@@ -155,11 +155,13 @@ programs_in files old [] holds = []
 programs_in files old (name ∷ names) holds =
     record { name = name; text = holds.0.bytes } ∷ programs_in files old names holds.1
 
--- the files of a host, no two of whose sessions have one id
+-- the files of a host, no two of whose listed sessions have one id
 pub record HoldsHost {F : Type 0} (files : FilesTell F) (old : F) (request : HostRequest) : Type 0 where
   pub config : HoldsFile files old request.config most_config IsConfigText
-  pub programs : HoldPrograms files old (programs_of config.right.0)
-  pub apart : are_apart (host_ids (programs_in files old (programs_of config.right.0) programs) config.right.0) ≡ true
+  pub programs : HoldPrograms files old (programs_of config.right.0.sessions)
+  pub apart :
+      are_apart (host_ids (programs_in files old (programs_of config.right.0.sessions) programs)
+      config.right.0.sessions) ≡ true
 
 -- a word is the address of a net
 abbrev pub NamesAddress : List ℕ → Type 0

@@ -265,20 +265,22 @@ pub record RanAsReflector (gives : ℕ → Type 0) {F W N L : Type 0} (tells : O
 
 -- ---- a host's run
 
--- a host of these sessions has done this to the net, by a clock that may give these values, and answers so; nothing else moves
+-- a host of these sessions, and of those that it made on demand, has done this to the net, by a clock that may give these values, and answers so; nothing else moves
 abbrev pub ServesHost
     : (ℕ → Type 0) → {F W N L : Type 0} → OutsideTells F W N L → PlainHosting → Result Hosted ServeFault
     → Outside F W N L → Outside F W N L → Type 0
 ServesHost gives tells hosting answer old new =
     OnPart tells.net (λ net. OnPart tells.links (λ links.
-    Hosts gives hosting.ids net links (Listen hosting.address ∷ []) hosting.connections old.net new.net answer))
+    Hosts gives hosting.ids hosting.on_demand net links (Listen hosting.address ∷ []) hosting.connections old.net
+    new.net answer))
     × (new ≡ record old { net = new.net })
 
--- what comes of a host's answer: each session is put as it is stored, and then their text is printed, also where the net, or memory, gave no further link
-abbrev pub OfHosted : List (List ℕ) → Result Hosted ServeFault → Coming
-OfHosted logs (Ok hosted) = OfHostEnds logs hosted.ends hosted.sessions hosted.stopped
-OfHosted logs (Err serve_fault.ListenFault) = Only (at_once ByNetFault)
-OfHosted logs (Err serve_fault.WantOfMemory) = Only (at_once ByWant)
+-- what comes of a host's answer: each session is put as it is stored, those that were made on demand under this prefix, and then their text is
+-- printed, also where the net, or memory, gave no further link
+abbrev pub OfHosted : List (List ℕ) → List ℕ → Result Hosted ServeFault → Coming
+OfHosted logs prefix (Ok hosted) = OfHostEnds logs prefix hosted.ids hosted.ends hosted.sessions hosted.stopped
+OfHosted logs prefix (Err serve_fault.ListenFault) = Only (at_once ByNetFault)
+OfHosted logs prefix (Err serve_fault.WantOfMemory) = Only (at_once ByWant)
 
 -- a command has done its steps, a host has served the net, and what comes of its answer is done
 pub record RanAsHost (gives : ℕ → Type 0) {F W N L : Type 0} (tells : OutsideTells F W N L) (coming : Coming)
@@ -289,7 +291,7 @@ pub record RanAsHost (gives : ℕ → Type 0) {F W N L : Type 0} (tells : Outsid
   pub answer : Result Hosted ServeFault
   pub served : Outside F W N L
   pub serves : ServesHost gives tells hosting answer ready served
-  pub behind : RanBySteps tells (OfHosted hosting.logs answer) served new result
+  pub behind : RanBySteps tells (OfHosted hosting.logs hosting.prefix answer) served new result
 
 -- ---- a reflector that keeps a journal
 

@@ -26,7 +26,7 @@ ghost use Rattle.live_view.specs.Script.{LiveIsScript};
 
 use crate::drilling::tell_drilled;
 use crate::giving::finish;
-use crate::hosting::{look_for_logs, tell_hosted};
+use crate::hosting::{HostPlaces, look_for_logs, tell_hosted};
 use crate::keeping::prepare;
 use crate::kept::{serve_kept, stores_keep_plays};
 use crate::living::{live_runs_are_caused, run_live_view};
@@ -104,7 +104,7 @@ fn ready<F: Files, W: Sink>(reflection: Reflection, files: &mut F, out: &mut W) 
     }
 }
 
-/// Sessions are ready to be hosted, once the run has looked whether each can be put in the end.
+/// Sessions are ready to be hosted, once the run has looked whether each listed one can be put in the end.
 fn ready_to_host<F: Files, W: Sink>(hosting: Hosting, files: &mut F, out: &mut W) -> Turn
     requires { IsBoundedHosting hosting }
     ensures turns { Turns (files_side_tells (files_tell F.Files) (output_tells W.Sink))
@@ -202,8 +202,8 @@ pub fn croquet<
     // steps and an end come of what it answers. One that keeps a journal opens its store before that, and founds it where it is not there; what
     // the store safely holds covers the session that was served, whatever call of it has failed. Of `drill` the session is put, and of each view the snapshot of the log's replay.
     // A live view asks its feed and its links in some order; what it sends and prints is `live_step` over what they told, up to a cut, and then
-    // the line of the fault, and each of its links goes back. No other command asks the feed. Of `host` each session is the play of one history of the
-    // links whose first frame goes to it, as if it were alone, and is put in a file of its own.
+    // the line of the fault, and each of its links goes back. No other command asks the feed. Of `host` each session, listed or made on demand, is the
+    // play of one history of the links whose first frame goes to it, as if it were alone, and is put in a file of its own.
     ensures ran { Ran (C.gives clock.now)
         (outside_tells (files_tell F.Files) (output_tells W.Sink) (net_tells N.Net) (links_tell N.Conn.Link))
         (stores_tell S.Stores J.Store) (feed_tells K.Feed)
@@ -319,19 +319,28 @@ pub fn croquet<
         Turn::Hosts(hosting) => {
             let Hosting {
                 ids,
+                on_demand,
                 address,
                 connections,
                 logs,
+                prefix,
+                rooms,
             } = hosting;
             let wanted = Host {
                 ids: ids.as_slice(),
+                on_demand,
                 address: &address,
                 connections,
                 clock,
                 gate,
             };
             let (net, answer) = host(rt, alloc, &wanted, net);
-            let status = tell_hosted(alloc, logs, answer, files, out);
+            let places = HostPlaces {
+                logs,
+                prefix,
+                rooms,
+            };
+            let status = tell_hosted(alloc, places, answer, files, out);
             (net, status)
         }
         Turn::Drills(request) => {

@@ -103,7 +103,7 @@ impl Grammar {
             Grammar::Live =>
                 "publish, watch, wait, settle, snap, cut, quit, mark, vote, show and hold",
             Grammar::Queries => "at and full",
-            Grammar::Config => "lines `session NAME PROGRAM` alone",
+            Grammar::Config => "`session NAME PROGRAM` and `any`",
         }
     }
 
@@ -114,9 +114,16 @@ impl Grammar {
             Grammar::Live if name == b"hold".as_slice() => Some("hold N"),
             Grammar::View | Grammar::Live => view_form(name),
             Grammar::Queries => query_form(name),
-            Grammar::Config if name == b"session".as_slice() => Some("session NAME PROGRAM"),
-            Grammar::Config => None,
+            Grammar::Config => config_form(name),
         }
+    }
+}
+
+fn config_form(name: &[u8]) -> Option<&'static str> {
+    match str::from_utf8(name).unwrap_or_default() {
+        "session" => Some("session NAME PROGRAM"),
+        "any" => Some("any"),
+        _ => None,
     }
 }
 

@@ -312,7 +312,7 @@ fn line_fault(alloc: Global, grammar: Grammar, line: &[u8]) -> Result<LineFault,
 fn limit_of(grammar: Grammar) -> &'static str {
     match grammar {
         Grammar::Config =>
-            "a host has from 1 to 16 sessions, no two of which have both one NAME and one program's text",
+            "a host has from 1 to 16 lines `session`, no two of which have both one NAME and one program's text, and one line `any` at most",
         _ => "a script has at most 1,048,576 lines `publish` and `vote`",
     }
 }

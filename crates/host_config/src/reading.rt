@@ -1,9 +1,10 @@
 //! Reading a configuration.
-ghost use Rattle.std.specs.Prelude.{◌≡◌, ◌∷◌, List, ℕ, None, map, IfOk, MatchBool};
+ghost use Rattle.std.specs.Prelude.{◌≡◌, ◌∷◌, List, ℕ, Option, None, map, IfOk, MatchBool};
 ghost use Rattle.std.specs.Option.{IfSome, option_and_then};
 ghost use Rattle.std.specs.Str.Lines.{lines};
 ghost use Rattle.text_lines.specs.Lines.{words_of};
-ghost use Rattle.host_config.specs.Config.{AreFew, AreNamed, HasName, config_of, if_few, session_line_of, session_lines_of, then_sessions};
+ghost use Rattle.host_config.specs.Config.{AreFew, AreNamed, HasName, config_lines_of, config_of, if_few, is_any, session_line_of, then_config, with_words};
+ghost use Rattle.host_config.specs.declared.reading.Config.{Config};
 
 use std::alloc::Global;
 use tea_base::{List, Text, WantOfMemory};
@@ -25,6 +26,15 @@ pub struct SessionLine {
 /// The sessions of a host, in order.
 pub type SessionLines = List<SessionLine>;
 
+/// What a host is to be configured with.
+#[derive(Drop)]
+pub struct Config {
+    /// The sessions that it begins with.
+    pub sessions: SessionLines,
+    /// Whether it makes sessions on demand.
+    pub on_demand: bool,
+}
+
 /// What a line's words say, if they are `session NAME PROGRAM`.
 fn line_of(alloc: Global, words: &[&str]) -> Result<Option<SessionLine>, WantOfMemory>
     ensures read { IfOk result (λ read. read ≡ session_line_of (map (λ word. word.now) words.now)) }
@@ -42,43 +52,67 @@ fn line_of(alloc: Global, words: &[&str]) -> Result<Option<SessionLine>, WantOfM
     }))
 }
 
-/// The session of a line.
-fn read_line(alloc: Global, line: &str) -> Result<Option<SessionLine>, WantOfMemory>
-    ensures read { IfOk result (λ read. read ≡ session_line_of (words_of line.now)) }
-    ensures named { IfOk result (λ read. IfSome read HasName) }
+/// Whether a line's words are `any`.
+fn is_any(words: &[&str]) -> bool
+    ensures { result ≡ is_any (map (λ word. word.now) words.now) }
 {
-    let words = split_words(alloc, line)?;
-    line_of(alloc, &words)
+    let [word] = words else {
+        return false;
+    };
+    *word == "any"
 }
 
-/// Reads one line more, or says that it is not in the grammar.
-fn take_line(alloc: Global, line: &str, taken: &mut SessionLines) -> Result<bool, WantOfMemory>
-    requires { AreNamed taken.old }
-    ensures named { AreNamed taken.new }
+/// Takes what a line's words say, or says that they are not in the grammar, or say `any` once more.
+fn take_words(alloc: Global, words: &[&str], taken: &mut Config) -> Result<bool, WantOfMemory>
+    requires { AreNamed taken.old.sessions }
+    ensures named { AreNamed taken.new.sessions }
     ensures read { IfOk result (λ follows. MatchBool follows
-        ((more : List (List ℕ)) →
-        then_sessions taken.new (session_lines_of more) ≡ then_sessions taken.old (session_lines_of (line.now ∷ more)))
-        ((more : List (List ℕ)) → session_lines_of (line.now ∷ more) ≡ None)) }
+        ((rest : Option Config) →
+        then_config taken.new rest
+        ≡ then_config taken.old (option_and_then (with_words (map (λ word. word.now) words.now)) rest))
+        ((rest : Option Config) →
+        then_config taken.old (option_and_then (with_words (map (λ word. word.now) words.now)) rest) ≡ None)) }
 {
-    if is_skipped(line.as_bytes()) {
-        return Ok(true);
+    if is_any(words) {
+        let first = !taken.on_demand;
+        taken.on_demand = true;
+        return Ok(first);
     }
-    match read_line(alloc, line)? {
-        Some(line) => {
-            taken.push(line)?;
+    match line_of(alloc, words)? {
+        Some(session) => {
+            taken.sessions.push(session)?;
             Ok(true)
         }
         None => Ok(false),
     }
 }
 
-/// The sessions of a text's lines, where each that is not skipped is one.
-fn read_lines(alloc: Global, text: &str) -> Result<Option<SessionLines>, WantOfMemory>
-    ensures read { IfOk result (λ read. read ≡ session_lines_of (lines text.now)) }
-    ensures named { IfOk result (λ read. IfSome read AreNamed) }
+/// Reads one line more, or says that it is not in the grammar.
+fn take_line(alloc: Global, line: &str, taken: &mut Config) -> Result<bool, WantOfMemory>
+    requires { AreNamed taken.old.sessions }
+    ensures named { AreNamed taken.new.sessions }
+    ensures read { IfOk result (λ follows. MatchBool follows
+        ((more : List (List ℕ)) →
+        then_config taken.new (config_lines_of more) ≡ then_config taken.old (config_lines_of (line.now ∷ more)))
+        ((more : List (List ℕ)) → then_config taken.old (config_lines_of (line.now ∷ more)) ≡ None)) }
+{
+    if is_skipped(line.as_bytes()) {
+        return Ok(true);
+    }
+    let words = split_words(alloc, line)?;
+    take_words(alloc, &words, taken)
+}
+
+/// What a text's lines say, where each that is not skipped is in the grammar.
+fn read_lines(alloc: Global, text: &str) -> Result<Option<Config>, WantOfMemory>
+    ensures read { IfOk result (λ read. read ≡ config_lines_of (lines text.now)) }
+    ensures named { IfOk result (λ read. IfSome read (λ config. AreNamed config.sessions)) }
 {
     let lines = split_lines(alloc, text)?;
-    let mut taken = SessionLines::new(alloc);
+    let mut taken = Config {
+        sessions: SessionLines::new(alloc),
+        on_demand: false,
+    };
     for line in &lines {
         let follows = take_line(alloc, line, &mut taken)?;
         if !follows {
@@ -88,33 +122,33 @@ fn read_lines(alloc: Global, text: &str) -> Result<Option<SessionLines>, WantOfM
     Ok(Some(taken))
 }
 
-/// These sessions, if there is one, and there are not too many.
-fn if_few(sessions: SessionLines) -> Option<SessionLines>
-    ensures { result ≡ if_few sessions }
+/// What was read, if there is a session, and there are not too many.
+fn if_few(config: Config) -> Option<Config>
+    ensures { result ≡ if_few config }
 {
-    if sessions.is_empty() || sessions.len() > MOST_SESSIONS {
+    if config.sessions.is_empty() || config.sessions.len() > MOST_SESSIONS {
         return None;
     }
-    Some(sessions)
+    Some(config)
 }
 
-/// The sessions of a text, which are not none and not too many.
-fn read_text(alloc: Global, text: &str) -> Result<Option<SessionLines>, WantOfMemory>
-    ensures read { IfOk result (λ read. read ≡ option_and_then if_few (session_lines_of (lines text.now))) }
-    ensures named { IfOk result (λ read. IfSome read AreNamed) }
-    ensures few { IfOk result (λ read. IfSome read AreFew) }
+/// What a text says, where its sessions are not none and not too many.
+fn read_text(alloc: Global, text: &str) -> Result<Option<Config>, WantOfMemory>
+    ensures read { IfOk result (λ read. read ≡ option_and_then if_few (config_lines_of (lines text.now))) }
+    ensures named { IfOk result (λ read. IfSome read (λ config. AreNamed config.sessions)) }
+    ensures few { IfOk result (λ read. IfSome read (λ config. AreFew config.sessions)) }
 {
     match read_lines(alloc, text)? {
-        Some(sessions) => Ok(if_few(sessions)),
+        Some(config) => Ok(if_few(config)),
         None => Ok(None),
     }
 }
 
-/// The sessions of a configuration, or none where it is not in the grammar.
-pub fn read_config(alloc: Global, bytes: &[u8]) -> Result<Option<SessionLines>, WantOfMemory>
+/// What a configuration says, or none where it is not in the grammar.
+pub fn read_config(alloc: Global, bytes: &[u8]) -> Result<Option<Config>, WantOfMemory>
     ensures read { IfOk result (λ read. read ≡ config_of bytes.now) }
-    ensures named { IfOk result (λ read. IfSome read AreNamed) }
-    ensures few { IfOk result (λ read. IfSome read AreFew) }
+    ensures named { IfOk result (λ read. IfSome read (λ config. AreNamed config.sessions)) }
+    ensures few { IfOk result (λ read. IfSome read (λ config. AreFew config.sessions)) }
 {
     match str::from_utf8(bytes) {
         Ok(text) => read_text(alloc, text),

@@ -1,9 +1,9 @@
 -- What comes of a host, from what was accepted, given back and closed.
-use Rattle.std.proofs.Common.{◌≡◌, ◌⊎◌, inl, ℕ, ◌≤◌, All, List, [], ◌∷◌, ◌++◌, append_assoc, length, map, reverse, vec_len, Option, Some, None, Ok, Err, refl, sym, ap, ◌∙◌, subst, arith}
-use Rattle.std.specs.List.{AllByRecursion, slice_get}
-use Rattle.std.specs.Option.{option_map}
-use Rattle.std.proofs.lemmas.List.{length-map, reverse-append, reverse-reverse}
-use Rattle.std.proofs.lemmas.Option.{same_Some, slice_get-map, slice_get_within}
+use Rattle.std.proofs.Common.{◌≡◌, ◌⊎◌, inl, ℕ, ◌≤◌, Bool, true, false, All, List, [], ◌∷◌, ◌++◌, append_assoc, get_or, length, map, reverse, take, vec_len, Option, Some, Ok, Err, refl, sym, ap, ◌∙◌, subst, append-nil, arith}
+use Rattle.std.specs.List.{Any, Contains, slice_get}
+use Rattle.std.specs.List.{AllByRecursion}
+use Rattle.std.proofs.lemmas.List.{length-map, length-reverse, reverse-append, reverse-reverse}
+use Rattle.std.proofs.lemmas.Option.{slice_get_within}
 use Rattle.atomic_table.specs.Seated.{TableId}
 use Rattle.tea_base.specs.declared.entry.SessionId.{SessionId}
 use Rattle.tea_io.specs.Told.{with_more}
@@ -17,6 +17,8 @@ use Rattle.run_steps.specs.Outside.{LinksTell, NetTells}
 use Rattle.reflector_core.specs.PlainSession.{PlainSession}
 use Rattle.reflector_core.specs.SessionState.{SessionState}
 use Rattle.reflector_core.specs.Play.{first_session}
+use Rattle.id_claims.specs.Passes.{ClaimsState, Closes}
+use Rattle.id_claims.specs.Passes as claims
 use Rattle.session_lock.specs.declared.knowledge.Item.{Item}
 use Rattle.session_lock.specs.History.{IsSoundThrough, play_from}
 use Rattle.session_lock.specs.Passes.{PassState, first_pass}
@@ -34,18 +36,19 @@ use Rattle.reflect_server.proofs.OpeningLaws.{opened_still}
 use Rattle.reflect_server.proofs.PassLaws.{keeps_itself}
 use Rattle.reflect_server.proofs.Reflections.{IsClosedBy, Returns, gives_back, history_of, none_else}
 use Rattle.reflect_server.proofs.StayingViews.{stays_by_miss}
-use Rattle.host_server.specs.Hosts.{AreAlone, Hosts, IsAlone, WantsMemory}
-use Rattle.host_server.specs.Links.{HostedLink, IsRouted, connections_of, ends_of, in_session}
+use Rattle.host_server.specs.Claiming.{Adds, GathersClaims, InTheEnd, IsBegunClaim, MayBeAll}
+use Rattle.host_server.specs.Hosts.{AreAlone, AreMade, Hosts, IsAlone, WantsMemory}
+use Rattle.host_server.specs.Links.{HasMade, HostedLink, connections_of, ends_of, in_session}
 use Rattle.host_server.specs.Prepares.{AreClosed, IsBegun, IsClosedWith, bare_all, unheard}
 use Rattle.host_server.specs.Rounds.{GoesAround, bare, end_in, ends_in, roomed_back, roomed_of}
-use Rattle.host_server.specs.Rows.{AtEach, IsOf, IsWhole, ids_of}
+use Rattle.host_server.specs.Rows.{AtEach, IsOf, IsWhole, rooms_for}
 use Rattle.host_server.specs.declared.accepting.HostRound.{HostRound}
 use Rattle.host_server.specs.declared.hosting.HostEnd.{HostEnd}
 use Rattle.host_server.specs.declared.hosting.Hosted.{Hosted}
 use Rattle.host_server.specs.declared.rooms.Room.{Room}
 use Rattle.host_server.specs.declared.serving.RoomedLink.{RoomedLink}
 use Rattle.host_server.proofs.NetLaws.{Listens, asked_at_most, asked_behind, asks_for, counted_behind, nothing_back, returns_behind}
-use Rattle.host_server.proofs.Places.{at_all, element_at}
+use Rattle.host_server.proofs.Places.{at_all, element_at, get_take, take_get, take_long}
 
 -- ---- a session
 
@@ -95,47 +98,101 @@ module _ (gives : ℕ → Type 0) (id : SessionId) {L : Type 0} (links : LinksTe
         stays = subst (λ (s : PlainSession). StaysByMiss first_session 0 (callers_of connections) last.seen s.log) (sym ended.plays.play) stays;
       }
 
+-- ---- the ids in the end
+
+none_of : (ids : List SessionId) → All (Contains []) ids → ids ≡ []
+none_of [] all = refl
+none_of (id ∷ ids) all = let one = all 0 id (omega arith) in absurd (let below = one.1 in omega (arith, below))
+
+added_all : (holds : SessionId → Type 0) (before now : List SessionId) → Adds holds before now → before ≡ [] → All holds now
+added_all holds before now adds none = subst (All holds) (sym (ap (λ (l : List SessionId). l ++ adds.more) none) ∙ adds.are) adds.each
+
+contained : (holds : SessionId → Type 0) (ids : List SessionId) (id : SessionId) → All holds ids → Contains ids id → holds id
+contained holds ids id all (k, below, is) = subst holds is (all k id below)
+
+-- all that were claimed are so
+pub later_all : (holds : SessionId → Type 0) (listed ids : List SessionId) (lead last : claims.PassState) → lead.made ≡ [] → Adds holds lead.made last.made → (closes : Closes listed last ids) → All holds closes.later
+later_all holds listed ids lead last none adds closes k d below =
+    contained holds last.made (get_or closes.later k d) (added_all holds lead.made last.made adds none) (closes.asked k d below)
+
+-- and where none was claimed, there are none
+pub later_none : (listed ids : List SessionId) (last : claims.PassState) → last.made ≡ [] → (closes : Closes listed last ids) → closes.later ≡ []
+later_none listed ids last none closes = none_of closes.later (subst (λ (l : List SessionId). All (Contains l) closes.later) none closes.asked)
+
+-- the ids with which the claims were closed
+pub all_in_end : (on_demand : Bool) (listed ids : List SessionId) (count : ℕ) (whole : ClaimsState) (lead last : claims.PassState) → IsBegunClaim count whole lead → GathersClaims on_demand count lead last → Closes listed last ids
+    → MayBeAll on_demand listed last.seen ids
+all_in_end on_demand listed ids count whole lead last begun gathers closes = record {
+  begins = (closes.later, closes.grows);
+  grows = ([], append-nil last.seen ∙ closes.seen);
+  few = closes.few;
+  still = λ still.
+      sym closes.grows ∙ (ap (λ (l : List SessionId). listed ++ l) (later_none listed ids last (gathers.none still ∙ begun.made) closes) ∙ append-nil listed);
+}
+
+-- there is a room for each of them
+pub all_fit : {K : Type 0} (on_demand : Bool) (listed seen ids : List SessionId) (rooms : List (Room K)) → MayBeAll on_demand listed seen ids → length rooms ≡ rooms_for on_demand listed → length ids ≤ length rooms
+all_fit true listed seen ids rooms all many = let few = all.few in omega (arith, few, many)
+all_fit false listed seen ids rooms all many = let same : length ids ≡ length listed = ap length (all.still refl) in omega (arith, same, many)
+
+pub are_made : (on_demand : Bool) {L : Type 0} (links : LinksTell L) (hosted : List (HostedLink L)) (listed ids : List SessionId) (count : ℕ) (whole : ClaimsState) (lead last : claims.PassState)
+    → IsBegunClaim count whole lead → GathersClaims on_demand count lead last → Closes listed last ids → Adds (λ id. Any (HasMade ids links id) hosted) lead.made last.made → AreMade listed on_demand links hosted ids
+are_made on_demand links hosted listed ids count whole lead last begun gathers closes adds = record {
+  others = closes.later;
+  are = closes.grows;
+  new = closes.new;
+  made = later_all (λ id. Any (HasMade ids links id) hosted) listed ids lead last begun.made adds closes;
+  none = λ still. later_none listed ids last (gathers.none still ∙ begun.made) closes;
+  few = closes.few;
+}
+
 -- ---- all sessions
 
-some_id : {K : Type 0} (found : Option (Room K)) (id : SessionId) → option_map (λ room. room.id) found ≡ Some id → (room : Room K) × (found ≡ Some room) × (room.id ≡ id)
-some_id None id is = absurd (cc (is))
-some_id (Some room) id is = (room, refl, same_Some room.id id is)
+module _ (gives : ℕ → Type 0) (ids : List SessionId) (on_demand : Bool) {N L K : Type 0} (tells : NetTells N L) (links : LinksTell L) (rooms : List (Room K)) (count : ℕ) (before mid : HostRound N L K)
+    (leads : AtEach (IsBegun count) rooms before.lead.seats.items) (round : GoesAround gives ids on_demand tells links rooms count before mid) (fits : length ids ≤ length rooms) where
+  many_mid : length ids ≤ length mid.lead.seats.items
+  many_mid = let many = round.passes.as_many in omega (arith, many, fits)
 
-module _ (gives : ℕ → Type 0) {N L K : Type 0} (tells : NetTells N L) (links : LinksTell L) (rooms : List (Room K)) (count : ℕ) (before mid : HostRound N L K) (leads : AtEach (IsBegun count) rooms before.leads.items)
-    (round : GoesAround gives tells links rooms count before mid) where
-  -- the passes have all numbers again
-  pub whole_again : AtEach IsWhole rooms mid.leads.items
+  -- the passes of the sessions that were made have all numbers again
+  pub whole_again : AtEach IsWhole (take (length ids) rooms) (take (length ids) mid.lead.seats.items)
   whole_again = record {
-    as_long = round.passes.as_many;
+    as_long = take_long (length ids) rooms fits ∙ sym (take_long (length ids) mid.lead.seats.items many_mid);
     each = λ place room last in_rooms in_mid.
-        let within = slice_get_within rooms place room in_rooms in
-        let lead = element_at before.leads.items place (let long = leads.as_long in omega (arith, long, within)) in
-        let one = leads.each place room lead.0 in_rooms lead.1 in
-        let gathers = round.passes.each place room lead.0 last in_rooms lead.1 in_mid in
-        let given = one.given.numbers in
-        let numbers = gathers.numbers in
-        (gathers.session ∙ ap (λ (p : PassState). p.session) one.given.kept, numbers ∙ given);
-  }
-
-  pub all_alone : (ids : List SessionId) (sessions : List SessionState) → ids_of rooms ≡ ids → AreClosed mid.leads.items sessions → AreAlone gives ids links round.hosted sessions
-  all_alone ids sessions ids_is closed = record {
-    as_many = sym closed.as_long ∙ (sym round.passes.as_many ∙ (sym (length-map rooms (λ room. room.id)) ∙ ap length ids_is));
-    each = λ place id session in_ids in_sessions.
-        let found = some_id (slice_get rooms place) id (sym (slice_get-map (λ room. room.id) rooms place) ∙ (ap (λ (l : List SessionId). slice_get l place) ids_is ∙ in_ids)) in
-        at place found.0 session found.1 in_sessions id found.2;
+        let below = slice_get_within (take (length ids) rooms) place room in_rooms in
+        let long = take_long (length ids) rooms fits in
+        let id = element_at ids place (omega (arith, below, long)) in
+        at place id.0 room last id.1 (take_get (length ids) rooms place room in_rooms) (take_get (length ids) mid.lead.seats.items place last in_mid);
   }
     where
-      at : (place : ℕ) (room : Room K) (session : SessionState) → slice_get rooms place ≡ Some room → slice_get sessions place ≡ Some session → (id : SessionId) → room.id ≡ id
-          → IsAlone gives id links (in_session place round.hosted) session.plain
-      at place room session in_rooms in_sessions id id_is =
+      at : (place : ℕ) (id : SessionId) (room : Room K) (last : PassState) → slice_get ids place ≡ Some id → slice_get rooms place ≡ Some room → slice_get mid.lead.seats.items place ≡ Some last → IsWhole room last
+      at place id room last in_ids in_rooms in_mid =
           let within = slice_get_within rooms place room in_rooms in
-          let lead = element_at before.leads.items place (let long = leads.as_long in omega (arith, long, within)) in
-          let last = element_at mid.leads.items place (let long = round.passes.as_many in omega (arith, long, within)) in
+          let lead = element_at before.lead.seats.items place (let long = leads.as_long in omega (arith, long, within)) in
           let one = leads.each place room lead.0 in_rooms lead.1 in
-          let gathers = round.passes.each place room lead.0 last.0 in_rooms lead.1 last.1 in
-          subst (λ (i : SessionId). IsAlone gives i links (in_session place round.hosted) session.plain) id_is
-          (alone_by gives room.id links room.shared.session count lead.0 last.0 (in_session place round.hosted) session one.given.kept gathers
-          (closed.each place last.0 session last.1 in_sessions))
+          let gathers = round.passes.each place room lead.0 last in_rooms lead.1 in_mid id in_ids in
+          let given = one.given.numbers in
+          let numbers = gathers.numbers in
+          (gathers.session ∙ ap (λ (p : PassState). p.session) one.given.kept, numbers ∙ given)
+
+  pub all_alone : (sessions : List SessionState) → AreClosed (take (length ids) mid.lead.seats.items) sessions → AreAlone gives ids links round.hosted sessions
+  all_alone sessions closed = record {
+    as_many = sym closed.as_long ∙ take_long (length ids) mid.lead.seats.items many_mid;
+    each = λ place id session in_ids in_sessions.
+        let below = slice_get_within ids place id in_ids in
+        let room = element_at rooms place (omega (arith, below, fits)) in
+        at place room.0 session room.1 in_sessions id in_ids;
+  }
+    where
+      at : (place : ℕ) (room : Room K) (session : SessionState) → slice_get rooms place ≡ Some room → slice_get sessions place ≡ Some session → (id : SessionId) → slice_get ids place ≡ Some id
+          → IsAlone gives id links (in_session place round.hosted) session.plain
+      at place room session in_rooms in_sessions id in_ids =
+          let within = slice_get_within rooms place room in_rooms in
+          let lead = element_at before.lead.seats.items place (let long = leads.as_long in omega (arith, long, within)) in
+          let last = element_at mid.lead.seats.items place (let long = round.passes.as_many in omega (arith, long, within)) in
+          let one = leads.each place room lead.0 in_rooms lead.1 in
+          let gathers = round.passes.each place room lead.0 last.0 in_rooms lead.1 last.1 id in_ids in
+          alone_by gives id links room.shared.session count lead.0 last.0 (in_session place round.hosted) session one.given.kept gathers
+          (closed.each place last.0 session (get_take (length ids) mid.lead.seats.items place last.0 (slice_get_within ids place id in_ids) last.1) in_sessions)
 
 -- ---- links
 
@@ -160,12 +217,48 @@ bare_back hosted =
 ends_back : {L : Type 0} (hosted : List (HostedLink L)) → ends_in (roomed_back hosted) ≡ ends_of hosted
 ends_back hosted = ap (map end_in) (reverse-reverse (map roomed_of hosted)) ∙ map_map roomed_of end_in hosted
 
-module _ (gives : ℕ → Type 0) (ids : List SessionId) {N L K : Type 0} (tells : NetTells N L) (links : LinksTell L) (rooms : List (Room K)) (count : ℕ) (before mid : HostRound N L K) (now : N)
-    (leads : AtEach (IsBegun count) rooms before.leads.items) (ids_is : ids_of rooms ≡ ids) (round : GoesAround gives tells links rooms count before mid) where
-  pub hosted_by : (sessions : List SessionState) (ends : List HostEnd) → Returns tells links mid.net now (bare_all mid.served.items) (vec_len mid.served) → vec_len mid.served ≡ length mid.served.items
-      → ends ≡ ends_in mid.served.items → AreClosed mid.leads.items sessions
-      → Hosts gives ids tells links [] count before.net now (Ok (record { sessions = sessions; ends = ends; stopped = mid.stopped }))
-  hosted_by sessions ends returns long ends_are closed = record {
+-- the links that were served are out
+pub served_lent : (gives : ℕ → Type 0) (ids : List SessionId) (on_demand : Bool) {N L K : Type 0} (tells : NetTells N L) (links : LinksTell L) (rooms : List (Room K)) (count : ℕ) (before mid : HostRound N L K)
+    → GoesAround gives ids on_demand tells links rooms count before mid → length mid.served.items ≤ tells.lent mid.net
+served_lent gives ids on_demand tells links rooms count before mid round =
+    let lent = round.net.lent in
+    let served = ap length round.served ∙ (length-reverse (map roomed_of round.hosted) ∙ length-map round.hosted roomed_of) in
+    let accepted = length-map (connections_of round.hosted) (λ one. one.accepted) ∙ length-map round.hosted (λ one. one.connection) in
+    omega (arith, lent, served, accepted)
+
+-- all links were served, and these are the ids in the end
+pub record IsOver (gives : ℕ → Type 0) (listed ids : List SessionId) (on_demand : Bool) {N L K : Type 0} (tells : NetTells N L) (links : LinksTell L) (rooms : List (Room K)) (count : ℕ) (before mid : HostRound N L K) : Type 0 where
+  pub round : GoesAround gives ids on_demand tells links rooms count before mid
+  pub fits : length ids ≤ length rooms
+  pub made : AreMade listed on_demand links round.hosted ids
+
+pub over_by : (gives : ℕ → Type 0) (listed ids : List SessionId) (on_demand : Bool) {N L K : Type 0} (tells : NetTells N L) (links : LinksTell L) (rooms : List (Room K)) (count : ℕ) (before mid : HostRound N L K)
+    → (n : ℕ) (whole : ClaimsState) (closed : List SessionId) → n ≡ count → whole.listed ≡ listed → ids ≡ closed → length rooms ≡ rooms_for on_demand listed → IsBegunClaim count whole before.lead.claim
+    → GathersClaims on_demand n before.lead.claim mid.lead.claim → Closes whole.listed mid.lead.claim closed
+    → InTheEnd on_demand listed mid.lead.claim.seen (λ all. GoesAround gives all on_demand tells links rooms n before mid) → IsOver gives listed ids on_demand tells links rooms count before mid
+over_by gives listed ids on_demand tells links rooms count before mid n whole closed count_is listed_is ids_are many begun gathered closes ended =
+    let closes_so : Closes listed mid.lead.claim ids =
+    subst (Closes listed mid.lead.claim) (sym ids_are) (subst (λ (l : List SessionId). Closes l mid.lead.claim closed) listed_is closes) in
+    let gathers : GathersClaims on_demand count before.lead.claim mid.lead.claim =
+    subst (λ (m : ℕ). GathersClaims on_demand m before.lead.claim mid.lead.claim) count_is gathered in
+    let all = all_in_end on_demand listed ids count whole before.lead.claim mid.lead.claim begun gathers closes_so in
+    let round : GoesAround gives ids on_demand tells links rooms count before mid =
+    subst (λ (m : ℕ). GoesAround gives ids on_demand tells links rooms m before mid) count_is (ended ids all) in
+    record {
+      round = round;
+      fits = all_fit on_demand listed mid.lead.claim.seen ids rooms all many;
+      made = are_made on_demand links round.hosted listed ids count whole before.lead.claim mid.lead.claim begun gathers closes_so round.made;
+    }
+
+module _ (gives : ℕ → Type 0) (listed ids : List SessionId) (on_demand : Bool) {N L K : Type 0} (tells : NetTells N L) (links : LinksTell L) (rooms : List (Room K)) (count : ℕ) (before mid : HostRound N L K) (now : N)
+    (leads : AtEach (IsBegun count) rooms before.lead.seats.items) (over : IsOver gives listed ids on_demand tells links rooms count before mid) where
+  abbrev round : GoesAround gives ids on_demand tells links rooms count before mid
+  round = over.round
+
+  pub hosted_all : (sessions : List SessionState) (ends : List HostEnd) → Returns tells links mid.net now (bare_all mid.served.items) (vec_len mid.served) → vec_len mid.served ≡ length mid.served.items
+      → ends ≡ ends_in mid.served.items → AreClosed (take (length ids) mid.lead.seats.items) sessions
+      → Hosts gives listed on_demand tells links [] count before.net now (Ok (record { ids = ids; sessions = sessions; ends = ends; stopped = mid.stopped }))
+  hosted_all sessions ends returns long ends_are closed = record {
     hosted = round.hosted;
     net =
         gives_back tells links before.net mid.net now (bare_all mid.served.items) (connections_of round.hosted) mid.stopped round.net (ap bare_all round.served ∙ bare_back round.hosted)
@@ -175,15 +268,17 @@ module _ (gives : ℕ → Type 0) (ids : List SessionId) {N L K : Type 0} (tells
     faults = subst (λ (n : ℕ). CountsStop (tells.faults before.net) n mid.stopped) (sym returns.faults) round.net.faults;
     number = round.number;
     ends = ends_are ∙ (ap ends_in round.served ∙ ends_back round.hosted);
-    routed = subst (λ (l : List SessionId). AllByRecursion (λ one. IsRouted gives l links one.session one.connection) round.hosted) ids_is round.routed;
-    sessions = all_alone gives tells links rooms count before mid leads round ids sessions ids_is closed;
+    ids = over.made;
+    routed = round.routed;
+    met = round.met;
+    sessions = all_alone gives ids on_demand tells links rooms count before mid leads round over.fits sessions closed;
   }
 
 -- ---- the net that was to listen
 
-module _ (gives : ℕ → Type 0) (ids : List SessionId) {N L : Type 0} (tells : NetTells N L) (links : LinksTell L) (count : ℕ) where
+module _ (gives : ℕ → Type 0) (listed : List SessionId) (on_demand : Bool) {N L : Type 0} (tells : NetTells N L) (links : LinksTell L) (count : ℕ) where
   pub hosts_behind : {T : Type 0} (address : List ℕ) (value : T) (before mid now : N) (result : Hosted) → Listens tells links address (Ok value) before mid
-      → Hosts gives ids tells links [] count mid now (Ok result) → Hosts gives ids tells links (Listen address ∷ []) count before now (Ok result)
+      → Hosts gives listed on_demand tells links [] count mid now (Ok result) → Hosts gives listed on_demand tells links (Listen address ∷ []) count before now (Ok result)
   hosts_behind address value before mid now result listens told = record {
     hosted = told.hosted;
     net = returns_behind tells links address value before mid now listens (connections_of told.hosted) told.net;
@@ -191,7 +286,9 @@ module _ (gives : ℕ → Type 0) (ids : List SessionId) {N L : Type 0} (tells :
     faults = counted_behind tells links address value before mid now listens result.stopped told.faults;
     number = told.number;
     ends = told.ends;
+    ids = told.ids;
     routed = told.routed;
+    met = told.met;
     sessions = told.sessions;
   }
 
@@ -203,7 +300,7 @@ module _ (gives : ℕ → Type 0) (ids : List SessionId) {N L : Type 0} (tells :
     faults = faults;
   }
 
-  unheard_by : {T : Type 0} (address : List ℕ) (fault : NetFault) (before now : N) → Listens tells links {T = T} address (Err fault) before now → Hosts gives ids tells links (Listen address ∷ []) count before now (Err (unheard fault))
+  unheard_by : {T : Type 0} (address : List ℕ) (fault : NetFault) (before now : N) → Listens tells links {T = T} address (Err fault) before now → Hosts gives listed on_demand tells links (Listen address ∷ []) count before now (Err (unheard fault))
   unheard_by {T} address Failed before now listens = record {
     net = nothing_back tells links before now listens.coming listens.over listens.lent listens.counts;
     asked = listens.asked;
@@ -213,9 +310,9 @@ module _ (gives : ℕ → Type 0) (ids : List SessionId) {N L : Type 0} (tells :
       wants_by (Listen address ∷ []) before now (asked_at_most tells links {T = T} address (Err WantOfMemory) before now listens) listens.coming listens.over listens.lent listens.counts listens.cause.later
 
   pub hosts_unheard : {T : Type 0} (address : List ℕ) (fault : NetFault) (answer : ServeFault) (before now : N) → answer ≡ unheard fault → Listens tells links {T = T} address (Err fault) before now
-      → Hosts gives ids tells links (Listen address ∷ []) count before now (Err answer)
+      → Hosts gives listed on_demand tells links (Listen address ∷ []) count before now (Err answer)
   hosts_unheard {T} address fault answer before now is listens =
-      subst (λ (f : ServeFault). Hosts gives ids tells links (Listen address ∷ []) count before now (Err f)) (sym is) (unheard_by {T = T} address fault before now listens)
+      subst (λ (f : ServeFault). Hosts gives listed on_demand tells links (Listen address ∷ []) count before now (Err f)) (sym is) (unheard_by {T = T} address fault before now listens)
 
   -- no memory was found, and the net was asked nothing
   pub hosts_want : (calls : List NetCall) (net : N) → WantsMemory tells links calls net net

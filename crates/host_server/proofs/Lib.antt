@@ -1,4 +1,5 @@
 pub mod Around
+pub mod ClaimLaws
 pub mod ClosingLaws
 pub mod Finals
 pub mod Gathering
@@ -9,4 +10,5 @@ pub mod NetLaws
 pub mod Places
 pub mod Quiets
 pub mod RowLaws
+pub mod Targets
 pub mod WholeLinks

@@ -10,7 +10,8 @@ use Rattle.byte_fields.specs.Fields.{blob_at, nothing_at, never_at}
 use Rattle.wire_frames.specs.declared.frame.ClientFrame.{ClientFrame}
 use Rattle.wire_frames.specs.declared.frame.ClientFrame.TheVariants as client
 use Rattle.wire_frames.specs.declared.start.Want.{Want}
-use Rattle.host_server.specs.Routing.{goes_to, is_id, named_at, named_by, named_in, place_of}
+use Rattle.id_claims.specs.Ids.{is_id}
+use Rattle.host_server.specs.Routing.{goes_to, named_at, named_by, named_in, place_of}
 
 -- ---- frames
 

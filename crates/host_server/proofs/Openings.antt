@@ -1,16 +1,18 @@
 -- Sessions that are opened, one after the other, each with its lead pass.
-use Rattle.std.proofs.Common.{◌≡◌, ℕ, suc, ◌+◌, ◌<◌, ◌≤◌, All, List, [], ◌∷◌, ◌++◌, take, length, get_or, refl, sym, ap, ◌∙◌, subst, arith}
-use Rattle.std.proofs.lemmas.List.{map-append, take_more}
+use Rattle.std.proofs.Common.{◌≡◌, ℕ, suc, ◌≤◌, All, List, [], ◌∷◌, ◌++◌, refl, sym, ap, ◌∙◌, subst, arith}
 use Rattle.std.proofs.lemmas.Option.{slice_get_within}
-use Rattle.tea_base.specs.declared.entry.SessionId.{SessionId}
 use Rattle.reflector_core.specs.PlainSession.{PlainSession}
 use Rattle.reflector_core.specs.Play.{first_session}
+use Rattle.id_claims.specs.Passes.{ClaimsState}
+use Rattle.id_claims.specs.Passes as claims
 use Rattle.session_lock.specs.Numbers.{count_of}
 use Rattle.session_lock.specs.Passes.{PassState, first_pass}
 use Rattle.reflect_server.specs.Passes.{IsFresh}
+use Rattle.host_server.specs.Claiming.{HasGivenClaims, IsBegunClaim}
 use Rattle.host_server.specs.Prepares.{IsBegun, IsNew}
-use Rattle.host_server.specs.Rows.{AtEach, HasGiven, IsOf, ids_of}
+use Rattle.host_server.specs.Rows.{AtEach, HasGiven, HasGivenRow, IsFreshRow, IsOf}
 use Rattle.host_server.specs.declared.rooms.Room.{Room}
+use Rattle.host_server.specs.declared.rooms.Row.{Row}
 use Rattle.host_server.proofs.ClosingLaws.{both_more}
 use Rattle.host_server.proofs.Places.{all_at, at_all, element_at}
 
@@ -29,14 +31,6 @@ pub new_room : {K : Type 0} (room : Room K) (lead : PassState) (opening : PlainS
 new_room room lead opening is first = record { begins = is ∙ ap (first_pass room.shared.session) first }
 
 -- one session more
-pub named_more : {K : Type 0} (ids : List SessionId) (place : ℕ) (d id : SessionId) (old new : List (Room K)) (room : Room K) → place < length ids → id ≡ get_or ids place d → room.id ≡ id → ids_of old ≡ take place ids
-    → new ≡ old ++ room ∷ [] → ids_of new ≡ take (place + 1) ids
-named_more ids place d id old new room within is named before after =
-    ap ids_of after ∙ map-append (λ (r : Room _). r.id) old (room ∷ [])
-    ∙ ap (λ (l : List SessionId). l ++ room.id ∷ []) before
-    ∙ ap (λ (one : SessionId). take place ids ++ one ∷ []) (named ∙ is)
-    ∙ sym (take_more ids place d within)
-
 pub new_more : {K : Type 0} (old new : List (Room K)) (leads now : List PassState) (room : Room K) (lead : PassState) → AtEach IsNew old leads → IsNew room lead → new ≡ old ++ room ∷ [] → now ≡ leads ++ lead ∷ [] → AtEach IsNew new now
 new_more old new leads now room lead all one rooms_is leads_is =
     subst (λ (l : List (Room _)). AtEach IsNew l now) (sym rooms_is) (subst (AtEach IsNew (old ++ room ∷ [])) (sym leads_is) (each_push IsNew old leads room lead all one))
@@ -80,8 +74,25 @@ row_still count leads now row given fresh = record {
       subst (λ (p : PassState). IsFresh p pass) (sym (given.each place lead.0 last lead.1 in_now).kept) (fresh.each place lead.0 pass lead.1 in_row);
 }
 
-pub rows_still : {A : Type 0} (items : A → List PassState) (count : ℕ) (leads now : List PassState) (rows : List A) → AtEach (HasGiven count) leads now → All (λ row. AtEach IsFresh leads (items row)) rows
-    → All (λ row. AtEach IsFresh now (items row)) rows
-rows_still {A} items count leads now rows given fresh =
-    at_all (λ (row : A). AtEach IsFresh now (items row)) rows
-    (λ place row in_rows. row_still count leads now (items row) given (all_at (λ (r : A). AtEach IsFresh leads (items r)) rows place row fresh in_rows))
+-- the same of all that such a row has
+whole_row_still : {K : Type 0} (count : ℕ) (lead now row : Row K) → HasGivenRow count lead now → IsFreshRow lead row → IsFreshRow now row
+whole_row_still count lead now row given fresh = record {
+  seats = row_still count lead.seats.items now.seats.items row.seats.items given.seats fresh.seats;
+  claim = record {
+    claims = fresh.claim.claims ∙ sym (ap (λ (p : claims.PassState). p.claims) given.claim.kept);
+    parts = fresh.claim.parts;
+    made = fresh.claim.made;
+  };
+}
+
+pub rows_still : {K : Type 0} (count : ℕ) (lead now : Row K) (rows : List (Row K)) → HasGivenRow count lead now → All (IsFreshRow lead) rows → All (IsFreshRow now) rows
+rows_still {K} count lead now rows given fresh =
+    at_all (IsFreshRow now) rows (λ place row in_rows. whole_row_still count lead now row given (all_at (IsFreshRow lead) rows place row fresh in_rows))
+
+-- the first pass of claims, but for the parts that were split off
+pub begun_claim : (count : ℕ) (whole : ClaimsState) (first now : claims.PassState) → first ≡ claims.first_pass whole → HasGivenClaims count first now → IsBegunClaim count whole now
+begun_claim count whole first now is given = record {
+  claims = ap (λ (p : claims.PassState). p.claims) given.kept ∙ ap (λ (p : claims.PassState). p.claims) is;
+  parts = given.parts ∙ ap (λ (p : claims.PassState). p.parts) is;
+  made = ap (λ (p : claims.PassState). p.made) given.kept ∙ ap (λ (p : claims.PassState). p.made) is;
+}

@@ -1,5 +1,5 @@
 -- Elements of lists by their places.
-use Rattle.std.proofs.Common.{◌≡◌, ◌≢◌, ℕ, ◌<◌, zero, suc, List, [], ◌∷◌, ◌++◌, All, length, set, get_or, Some, refl, sym, ap, ◌∙◌, subst, arith}
+use Rattle.std.proofs.Common.{◌≡◌, ◌≢◌, ℕ, ◌<◌, ◌≤◌, zero, suc, List, [], ◌∷◌, ◌++◌, All, length, set, take, get_or, Some, refl, sym, ap, ◌∙◌, subst, arith}
 use Rattle.std.specs.List.{slice_get}
 use Rattle.std.proofs.lemmas.Option.{get_or_from_slice_get, same_Some, slice_get-get_or, slice_get_within}
 
@@ -39,3 +39,23 @@ all_at P xs place x all at = subst P (get_or_from_slice_get xs place x x at) (al
 
 pub at_all : {A : Type 0} (P : A → Type 0) (xs : List A) → ((place : ℕ) (x : A) → slice_get xs place ≡ Some x → P x) → All P xs
 at_all P xs each place d within = each place (get_or xs place d) (slice_get-get_or xs place d within)
+
+-- ---- the first elements
+
+-- the elements of the first ones are those of all
+pub take_get : {A : Type 0} (n : ℕ) (xs : List A) (place : ℕ) (x : A) → slice_get (take n xs) place ≡ Some x → slice_get xs place ≡ Some x
+take_get zero xs place x is = absurd (cc (is))
+take_get (suc n) [] place x is = absurd (cc (is))
+take_get (suc n) (y ∷ xs) zero x is = is
+take_get (suc n) (y ∷ xs) (suc place) x is = take_get n xs place x is
+
+pub get_take : {A : Type 0} (n : ℕ) (xs : List A) (place : ℕ) (x : A) → place < n → slice_get xs place ≡ Some x → slice_get (take n xs) place ≡ Some x
+get_take zero xs place x below is = absurd (omega (arith, below))
+get_take (suc n) [] place x below is = absurd (cc (is))
+get_take (suc n) (y ∷ xs) zero x below is = is
+get_take (suc n) (y ∷ xs) (suc place) x below is = get_take n xs place x (omega (arith, below)) is
+
+pub take_long : {A : Type 0} (n : ℕ) (xs : List A) → n ≤ length xs → length (take n xs) ≡ n
+take_long zero xs few = refl
+take_long (suc n) [] few = absurd (omega (arith, few))
+take_long (suc n) (y ∷ xs) few = ap suc (take_long n xs (omega (arith, few)))

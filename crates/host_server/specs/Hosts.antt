@@ -1,7 +1,8 @@
 -- What a host answers, and what it has done to its net by then.
-use Rattle.std.specs.Prelude.{◌≡◌, ◌⊎◌, ℕ, ◌≤◌, List, [], length, slice_get, Some, Result, Ok, Err}
+use Rattle.std.specs.Prelude.{◌≡◌, ◌⊎◌, ℕ, ◌≤◌, Bool, false, List, [], ◌++◌, All, Any, length, slice_get, Some, Result, Ok, Err}
 use Rattle.std.specs.List.{AllByRecursion}
 use Rattle.tea_base.specs.declared.entry.SessionId.{SessionId}
+use Rattle.id_claims.specs.Ids.{AreNew, most_ids}
 use Rattle.tea_io.specs.Told.{with_more, Rose}
 use Rattle.tea_io.specs.declared.net.NetCall.{NetCall}
 use Rattle.run_steps.specs.Outside.{LinksTell, NetTells}
@@ -15,7 +16,7 @@ use Rattle.reflect_server.specs.Rounds.{CountsLinks, CountsStop}
 use Rattle.reflect_server.specs.Views.{StaysByMiss}
 use Rattle.reflect_server.specs.declared.reflection.ServeFault.{ServeFault}
 use Rattle.reflect_server.specs.declared.reflection.ServeFault.TheVariants.{ListenFault, WantOfMemory}
-use Rattle.host_server.specs.Links.{HostedLink, IsRouted, connections_of, ends_of, in_session}
+use Rattle.host_server.specs.Links.{HasMade, HostedLink, IsMetOnDemand, IsRouted, connections_of, ends_of, in_session}
 use Rattle.host_server.specs.declared.hosting.Hosted.{Hosted}
 
 -- A new session as if it were alone: it is the play of one history, from the first session on, in which each of these connections has its talk, and
@@ -39,9 +40,20 @@ pub record AreAlone (gives : ℕ → Type 0) (ids : List SessionId) {L : Type 0}
       → slice_get sessions place ≡ Some session
       → IsAlone gives id links (in_session place hosted) session.plain
 
+-- The ids of the sessions, of which the first ones were listed. The others are those of sessions that were made on demand: each is new, and a link
+-- made its session.
+pub record AreMade (listed : List SessionId) (on_demand : Bool) {L : Type 0} (links : LinksTell L)
+    (hosted : List (HostedLink L)) (ids : List SessionId) : Type 0 where
+  pub others : List SessionId
+  pub are : listed ++ others ≡ ids
+  pub new : AreNew listed others
+  pub made : All (λ id. Any (HasMade ids links id) hosted) others
+  pub none : on_demand ≡ false → others ≡ []
+  pub few : length ids ≤ most_ids
+
 -- What was hosted, after these first calls of the net. Each link that was accepted has one end, in order, and was given back. It was served by
 -- the session of its first frame.
-pub record IsHosted (gives : ℕ → Type 0) (ids : List SessionId) {N L : Type 0} (tells : NetTells N L)
+pub record IsHosted (gives : ℕ → Type 0) (listed : List SessionId) (on_demand : Bool) {N L : Type 0} (tells : NetTells N L)
     (links : LinksTell L) (calls : List NetCall) (count : ℕ) (before now : N) (result : Hosted) : Type 0 where
   pub hosted : List (HostedLink L)
   pub net : ReturnsLinks tells links before now (connections_of hosted)
@@ -50,8 +62,10 @@ pub record IsHosted (gives : ℕ → Type 0) (ids : List SessionId) {N L : Type 
   pub faults : CountsStop (tells.faults before) (tells.faults now) result.stopped
   pub number : CountsLinks (length hosted) count result.stopped
   pub ends : result.ends ≡ ends_of hosted
-  pub routed : AllByRecursion (λ one. IsRouted gives ids links one.session one.connection) hosted
-  pub sessions : AreAlone gives ids links hosted result.sessions
+  pub ids : AreMade listed on_demand links hosted result.ids
+  pub routed : AllByRecursion (λ one. IsRouted gives result.ids links one.session one.connection) hosted
+  pub met : AllByRecursion (λ one. IsMetOnDemand on_demand result.ids links one.connection) hosted
+  pub sessions : AreAlone gives result.ids links hosted result.sessions
 
 -- the net did not listen: it gave no link
 pub record IsUnheard {N L : Type 0} (tells : NetTells N L) (links : LinksTell L) (calls : List NetCall)
@@ -67,9 +81,11 @@ pub record WantsMemory {N L : Type 0} (tells : NetTells N L) (links : LinksTell 
   pub asked : (tells.asked now ≡ tells.asked before) ⊎ (tells.asked now ≡ with_more (tells.asked before) calls)
   pub faults : tells.faults before ≤ tells.faults now
 
-abbrev pub Hosts : (ℕ → Type 0) → List SessionId → {N L : Type 0} → NetTells N L → LinksTell L → List NetCall → ℕ → N
-    → N → Result Hosted ServeFault → Type 0
-Hosts gives ids tells links calls count before now (Ok hosted) =
-    IsHosted gives ids tells links calls count before now hosted
-Hosts gives ids tells links calls count before now (Err ListenFault) = IsUnheard tells links calls before now
-Hosts gives ids tells links calls count before now (Err WantOfMemory) = WantsMemory tells links calls before now
+abbrev pub Hosts : (ℕ → Type 0) → List SessionId → Bool → {N L : Type 0} → NetTells N L → LinksTell L → List NetCall → ℕ
+    → N → N → Result Hosted ServeFault → Type 0
+Hosts gives listed on_demand tells links calls count before now (Ok hosted) =
+    IsHosted gives listed on_demand tells links calls count before now hosted
+Hosts gives listed on_demand tells links calls count before now (Err ListenFault) =
+    IsUnheard tells links calls before now
+Hosts gives listed on_demand tells links calls count before now (Err WantOfMemory) =
+    WantsMemory tells links calls before now

@@ -2,6 +2,7 @@ pub mod Routing
 pub mod Hearing
 pub mod Peeking
 pub mod Links
+pub mod Claiming
 pub mod Rows
 pub mod Rounds
 pub mod Prepares

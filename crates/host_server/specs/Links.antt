@@ -1,11 +1,12 @@
 -- Links that were hosted, and by which session each was served.
-use Rattle.std.specs.Prelude.{◌≡◌, ◌≢◌, ℕ, ◌<◌, ◌==◌, Bool, false, if◌then◌else◌, List, [], ◌∷◌, length, map, Option, Some, None}
+use Rattle.std.specs.Prelude.{◌≡◌, ◌≢◌, ℕ, ◌<◌, ◌==◌, Bool, true, false, if◌then◌else◌, List, [], ◌∷◌, length, map, position, Option, Some, None}
 use Rattle.tea_base.specs.declared.entry.SessionId.{SessionId}
+use Rattle.id_claims.specs.Ids.{is_id, most_ids}
 use Rattle.tea_io.specs.declared.link.Heard.{Heard}
 use Rattle.run_steps.specs.Outside.{LinksTell}
 use Rattle.reflector_core.specs.Play.{first_session}
 use Rattle.reflect_server.specs.Connections.{ServedConnection, HasTalk}
-use Rattle.host_server.specs.Routing.{first_frame, goes_to}
+use Rattle.host_server.specs.Routing.{BeginsWithJoin, first_frame, goes_to, place_of}
 use Rattle.host_server.specs.declared.hosting.HostEnd.{HostEnd}
 
 -- a link: its connection, and the place of the session that served it; none where it gave no frame
@@ -49,3 +50,14 @@ abbrev pub IsRouted : (ℕ → Type 0) → List SessionId → {L : Type 0} → L
 IsRouted gives ids links None one = (id : SessionId) → IsSilent gives id links one
 IsRouted gives ids links (Some place) one =
     (place < length ids) × (links.heard one.accepted ≢ None → IsGoneTo ids one.heard place)
+
+-- a link made the session with this id: it was served by this session, and its first frame names the id where it tells its frames
+pub record HasMade {L : Type 0} (ids : List SessionId) (links : LinksTell L) (id : SessionId) (one : HostedLink L) : Type 0 where
+  pub session : one.session ≡ Some (place_of ids (Some id))
+  pub named : links.heard one.connection.accepted ≢ None → BeginsWithJoin one.connection.heard id
+
+-- where sessions are made on demand, its first frame is a JOIN of an id that none has only if there are as many as there may be
+abbrev pub IsMetOnDemand : Bool → List SessionId → {L : Type 0} → LinksTell L → ServedConnection L → Type 0
+IsMetOnDemand on_demand ids links one =
+    on_demand ≡ true → links.heard one.accepted ≢ None → (id : SessionId) → BeginsWithJoin one.heard id
+    → position (is_id id) ids ≡ None → length ids ≡ most_ids

@@ -1,8 +1,9 @@
 -- Which session a link goes to: that of its first frame.
-use Rattle.std.specs.Prelude.{ℕ, ◌==◌, if◌then◌else◌, Bool, bytes_eq, List, [], ◌∷◌, position, unwrap_or, Option, Some, None}
+use Rattle.std.specs.Prelude.{◌≡◌, ℕ, ◌==◌, if◌then◌else◌, List, [], ◌∷◌, position, unwrap_or, Option, Some, None}
 use Rattle.std.specs.Int.{w32}
 use Rattle.byte_fields.specs.Fields.{Decoder, ◌>>=◌, byte_at, made_at, number_at, paired_at, whole}
 use Rattle.tea_base.specs.declared.entry.SessionId.{SessionId}
+use Rattle.id_claims.specs.Ids.{is_id}
 use Rattle.tea_io.specs.declared.link.Heard.{Heard}
 use Rattle.tea_io.specs.declared.link.Heard.TheVariants.{Frame}
 use Rattle.wire_frames.specs.Reading.{client_at, session_at, want_at}
@@ -26,10 +27,11 @@ abbrev pub named_by : Option ClientFrame → Option SessionId
 named_by (Some (Join session view want)) = Some session
 named_by other = None
 
-abbrev pub is_id : SessionId → SessionId → Bool
-is_id id other = bytes_eq other.0 id.0
+-- these bytes are a JOIN of the session with this id
+abbrev pub IsJoinOf : List ℕ → SessionId → Type 0
+IsJoinOf bytes id = named_by (whole client_at bytes) ≡ Some id
 
--- the place of an id among those that are listed, and the first place where it is not listed
+-- the place of an id among these, and the first place where it is not among them
 abbrev pub place_of : List SessionId → Option SessionId → ℕ
 place_of ids None = 0
 place_of ids (Some id) = unwrap_or (position (is_id id) ids) 0
@@ -43,3 +45,7 @@ abbrev pub first_frame : List Heard → Option (List ℕ)
 first_frame [] = None
 first_frame (Frame bytes ∷ rest) = Some bytes
 first_frame (other ∷ rest) = first_frame rest
+
+-- the first frame is a JOIN of the session with this id
+abbrev pub BeginsWithJoin : List Heard → SessionId → Type 0
+BeginsWithJoin heard id = (bytes : List ℕ) × (first_frame heard ≡ Some bytes) × IsJoinOf bytes id

@@ -4,6 +4,7 @@
 #![tactic(auto)]
 
 mod accepting;
+mod claiming;
 mod hearing;
 mod hosting;
 mod peeked;
@@ -13,5 +14,11 @@ mod running;
 mod seats;
 mod serving;
 
-pub use hosting::{Host, HostEnd, HostEnds, Hosted, Sessions};
-pub use running::host;
+pub use claiming::{Target, target_of};
+pub use hearing::hear_first;
+pub use hosting::{Host, HostEnd, HostEnds, Hosted, SessionIds, Sessions};
+pub use peeked::Peeking;
+pub use rooms::{Room, Row, merge_row};
+pub use running::{Opened, close_made, host, open_all, rooms_for, unheard};
+pub use seats::Seat;
+pub use serving::{HostService, RoomedLink, serve_first};

@@ -2,7 +2,8 @@
 ghost use Rattle.std.specs.Prelude.{◌≡◌, ◌<◌, length, position};
 ghost use Rattle.std.specs.Option.{option_map};
 ghost use Rattle.wire_frames.specs.Reading.{session_at, time_at, want_of_mark, want_at};
-ghost use Rattle.host_server.specs.Routing.{goes_to, is_id, named_at, named_in, named_of_tag};
+ghost use Rattle.id_claims.specs.Ids.{is_id};
+ghost use Rattle.host_server.specs.Routing.{goes_to, named_at, named_in, named_of_tag};
 
 use byte_fields::{bytes_at, u8_at, u32_at, u64_at};
 use tea_base::{SessionId, TIME_LIMIT};
@@ -91,7 +92,7 @@ fn named_of_tag(tag: u8, bytes: &[u8]) -> Option<SessionId>
 }
 
 /// The session that a frame names, if it is a JOIN.
-fn named_in(bytes: &[u8]) -> Option<SessionId>
+pub fn named_in(bytes: &[u8]) -> Option<SessionId>
     ensures { result ≡ named_in bytes.now }
 {
     let (tag, rest) = u8_at(bytes)?;

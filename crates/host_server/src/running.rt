@@ -1,5 +1,5 @@
 //! Sessions that are hosted over a net.
-ghost use Rattle.std.specs.Prelude.{◌≡◌, ◌+◌, ◌≤◌, ◌<◌, ◌++◌, ◌∷◌, [], Ok, IfOk, length, vec_len, vec_capacity};
+ghost use Rattle.std.specs.Prelude.{◌≡◌, ◌+◌, ◌≤◌, ◌<◌, ◌++◌, ◌∷◌, [], Ok, IfOk, length, take, vec_len, vec_capacity};
 ghost use Rattle.run_steps.specs.Limits.{most_connections};
 ghost use Rattle.run_steps.specs.Outside.{links_tell, net_tells};
 ghost use Rattle.tea_io.specs.Told.{with_more};
@@ -8,13 +8,14 @@ ghost use Rattle.reflect_server.specs.Rounds.{links_of, with_links};
 ghost use Rattle.host_server.specs.Hosts.{Hosts};
 ghost use Rattle.host_server.specs.Prepares.{AreClosed, AreOpened, IsPrepared, bare_all, unheard};
 ghost use Rattle.host_server.specs.Rounds.{ends_in};
-ghost use Rattle.host_server.specs.Rows.{AtEach, IsWhole, most_sessions};
+ghost use Rattle.host_server.specs.Rows.{AtEach, IsWhole, most_sessions, rooms_for};
 
 use crate::accepting::{HostRound, accept_all};
 use crate::hosting::{Host, HostEnd, Hosted};
-use crate::rooms::{Room, split_rows};
+use crate::rooms::{Room, Row, split_rows};
 use crate::seats::Seat;
 use crate::serving::{HostService, RoomedLink};
+use id_claims::{Claims, MOST_IDS};
 use reflect_server::ServeFault;
 use reflector_core::{NoKeeper, Session};
 use session_lock::{SharedSession, TrustAll};
@@ -24,31 +25,41 @@ use std::thread::Threads;
 use tea_base::{List, SessionId, WantOfMemory};
 use tea_io::{Clock, Gate, Link, Net, NetFault};
 
+/// An id that no trust of these sessions looks at.
+const NO_ID: SessionId = SessionId([0; 32]);
+
 /// The new sessions, and the lead pass of each.
 #[derive(Drop)]
-struct Opened {
-    rooms: Vec<Room<NoKeeper>>,
-    leads: Vec<Seat<NoKeeper>>,
+pub struct Opened {
+    pub rooms: Vec<Room<NoKeeper>>,
+    pub leads: Vec<Seat<NoKeeper>>,
 }
 
-/// Shares a new session for each id.
-fn open_all(alloc: Global, ids: &[SessionId]) -> Result<Opened, WantOfMemory>
-    ensures { IfOk result (λ opened. AreOpened ids.now opened.rooms.items opened.leads.items) }
+/// How many rooms there are to be.
+pub fn rooms_for(on_demand: bool, listed: &[SessionId]) -> usize
+    ensures { result ≡ rooms_for on_demand listed.now }
 {
-    let mut rooms = Vec::with_capacity(alloc, ids.len())?;
-    let mut leads = Vec::with_capacity(alloc, ids.len())?;
-    for id in ids {
-        let Ok((shared, lead)) = SharedSession::new(alloc, *id, Session::new(alloc), TrustAll)
-        else {
+    if on_demand { MOST_IDS } else { listed.len() }
+}
+
+/// Shares so many new sessions.
+pub fn open_all(alloc: Global, count: usize) -> Result<Opened, WantOfMemory>
+    ensures { IfOk result (λ opened. AreOpened count opened.rooms.items opened.leads.items) }
+{
+    let mut rooms = Vec::with_capacity(alloc, count)?;
+    let mut leads = Vec::with_capacity(alloc, count)?;
+    for _made in 0..count {
+        let session = Session::new(alloc);
+        let Ok((shared, lead)) = SharedSession::new(alloc, NO_ID, session, TrustAll) else {
             return Err(WantOfMemory);
         };
-        rooms.push_reserved(Room { id: *id, shared });
+        rooms.push_reserved(Room { shared });
         leads.push_reserved(Seat::new(lead));
     }
     Ok(Opened { rooms, leads })
 }
 
-/// The sessions in the end, in the order of their rooms. There is room for them.
+/// The sessions of all rooms in the end, in their order. There is room for them.
 fn close_all(
     mut rooms: Vec<Room<NoKeeper>>,
     mut leads: Vec<Seat<NoKeeper>>,
@@ -68,11 +79,29 @@ fn close_all(
     sessions
 }
 
+/// The sessions of the first rooms in the end. Those of the others were never made: nobody has called them.
+pub fn close_made(
+    mut rooms: Vec<Room<NoKeeper>>,
+    mut leads: Vec<Seat<NoKeeper>>,
+    sessions: Vec<Session>,
+    made: usize,
+) -> Vec<Session>
+    requires leads { AtEach IsWhole (take made rooms.items) (take made leads.items) }
+    requires room { (sessions.items ≡ []) × (vec_len rooms ≤ vec_capacity sessions) }
+    ensures { AreClosed (take made leads.items) result.items }
+{
+    rooms.truncate(made);
+    leads.truncate(made);
+    close_all(rooms, leads, sessions)
+}
+
 /// All that is made before a net is asked.
 #[derive(Drop)]
 struct Prepared<L: Link + Drop> {
-    opened: Opened,
-    rows: Vec<Vec<Seat<NoKeeper>>>,
+    rooms: Vec<Room<NoKeeper>>,
+    claims: Claims,
+    lead: Row<NoKeeper>,
+    rows: Vec<Row<NoKeeper>>,
     served: Vec<RoomedLink<L>>,
     ends: Vec<HostEnd>,
     sessions: Vec<Session>,
@@ -80,19 +109,29 @@ struct Prepared<L: Link + Drop> {
 
 fn prepare<L: Link + Drop>(
     alloc: Global,
-    ids: &[SessionId],
+    listed: &[SessionId],
+    on_demand: bool,
     connections: u32,
 ) -> Result<Prepared<L>, WantOfMemory>
-    requires { connections ≤ most_connections }
-    ensures { IfOk result (λ prepared. IsPrepared ids.now connections prepared) }
+    requires listed { length listed.now ≤ most_sessions }
+    requires connections { connections ≤ most_connections }
+    ensures { IfOk result (λ prepared. IsPrepared listed.now on_demand connections prepared) }
 {
+    let count = rooms_for(on_demand, listed);
     let served = Vec::with_capacity(alloc, connections as usize)?;
     let ends = Vec::with_capacity(alloc, connections as usize)?;
-    let sessions = Vec::with_capacity(alloc, ids.len())?;
-    let mut opened = open_all(alloc, ids)?;
-    let rows = split_rows(alloc, &opened.rooms, &mut opened.leads, connections)?;
+    let sessions = Vec::with_capacity(alloc, count)?;
+    let (claims, claim) = Claims::new(alloc, listed)?;
+    let Opened { rooms, leads } = open_all(alloc, count)?;
+    let mut lead = Row {
+        seats: leads,
+        claim,
+    };
+    let rows = split_rows(alloc, &rooms, &claims, &mut lead, connections)?;
     Ok(Prepared {
-        opened,
+        rooms,
+        claims,
+        lead,
         rows,
         served,
         ends,
@@ -139,12 +178,14 @@ fn host_all<N: Net + Drop, C: Clock + Sync, G: Gate + Sync, R: Threads + Wait + 
 ) -> (N, Hosted)
     requires ids { (0 < length host.now.ids.now) × (length host.now.ids.now ≤ most_sessions) }
     requires connections { host.now.connections ≤ most_connections }
-    requires prepared { IsPrepared host.now.ids.now host.now.connections prepared }
-    ensures { Hosts (C.gives host.now.clock.now) host.now.ids.now
+    requires prepared { IsPrepared host.now.ids.now host.now.on_demand host.now.connections prepared }
+    ensures { Hosts (C.gives host.now.clock.now) host.now.ids.now host.now.on_demand
         (net_tells N.Net) (links_tell N.Conn.Link) [] host.now.connections net result.0 (Ok result.1) }
 {
     let Prepared {
-        opened: Opened { rooms, leads },
+        rooms,
+        claims,
+        lead,
         rows,
         served,
         ends,
@@ -155,22 +196,27 @@ fn host_all<N: Net + Drop, C: Clock + Sync, G: Gate + Sync, R: Threads + Wait + 
         alloc,
         host,
         rooms: rooms.as_slice(),
+        claims: &claims,
     };
     let round = HostRound {
         net,
-        leads,
+        lead,
         served,
         stopped: None,
     };
     let HostRound {
         mut net,
-        leads,
+        lead,
         served,
         stopped,
     } = accept_all(&service, round, rows, 0);
+    let Row { seats, claim } = lead;
+    let ids = List::from_vec(claims.close(claim));
     let ends = List::from_vec(give_back(&mut net, served, ends));
-    let sessions = List::from_vec(close_all(rooms, leads, sessions));
+    let made = ids.len();
+    let sessions = List::from_vec(close_made(rooms, seats, sessions, made));
     let hosted = Hosted {
+        ids,
         sessions,
         ends,
         stopped,
@@ -179,7 +225,7 @@ fn host_all<N: Net + Drop, C: Clock + Sync, G: Gate + Sync, R: Threads + Wait + 
 }
 
 /// Why nothing was hosted, by why the net did not listen.
-fn unheard(fault: NetFault) -> ServeFault
+pub fn unheard(fault: NetFault) -> ServeFault
     ensures { result ≡ unheard fault }
 {
     match fault {
@@ -189,7 +235,8 @@ fn unheard(fault: NetFault) -> ServeFault
 }
 
 /// Hosts a new session for each id, to so many links of a net. A link is heard until it gives a frame, and is then served by the session that this
-/// frame names. Each session is as if it were alone.
+/// frame names. Where sessions are made on demand, a JOIN of an id that no session has makes one, up to 256 in all. Each session is as if it were
+/// alone.
 pub fn host<N: Net + Drop, C: Clock + Sync, G: Gate + Sync, R: Threads + Wait + Sync>(
     rt: &R,
     alloc: Global,
@@ -198,11 +245,11 @@ pub fn host<N: Net + Drop, C: Clock + Sync, G: Gate + Sync, R: Threads + Wait + 
 ) -> (N, Result<Hosted, ServeFault>)
     requires ids { (0 < length host.now.ids.now) × (length host.now.ids.now ≤ most_sessions) }
     requires connections { (1 ≤ host.now.connections) × (host.now.connections ≤ most_connections) }
-    ensures { Hosts (C.gives host.now.clock.now) host.now.ids.now
+    ensures { Hosts (C.gives host.now.clock.now) host.now.ids.now host.now.on_demand
         (net_tells N.Net) (links_tell N.Conn.Link)
         (Listen host.now.address.now ∷ []) host.now.connections net result.0 result.1 }
 {
-    let prepared = match prepare(alloc, host.ids, host.connections) {
+    let prepared = match prepare(alloc, host.ids, host.on_demand, host.connections) {
         Ok(prepared) => prepared,
         Err(WantOfMemory) => return (net, Err(ServeFault::WantOfMemory)),
     };

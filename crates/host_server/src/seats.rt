@@ -5,7 +5,7 @@ use std::marker::Model;
 /// A pass that a list holds. What a list lends has a size, and a pass alone has none. Contracts see the pass.
 #[derive(Drop)]
 pub struct Seat<K> {
-    pub(crate) pass: Pass<K>,
+    pub pass: Pass<K>,
     size: u8,
 }
 

@@ -8,9 +8,12 @@ mod keys;
 mod link;
 mod net;
 mod receives;
+mod share;
 mod stage;
+mod tally;
 mod watch;
 mod wire;
 
 pub use link::WsLink;
 pub use net::WsNet;
+pub use share::WsShare;

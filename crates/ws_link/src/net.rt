@@ -1,18 +1,18 @@
 //! A net of links over WebSockets.
-ghost use Rattle.std.specs.Prelude.{◌≡◌, ◌≤◌, ◌+◌, None, IfOk, OnOk, OnErr};
-ghost use Rattle.tea_io.specs.declared.net.NetFault.TheVariants.{Failed};
-ghost use Rattle.tea_io.specs.Told.{count_up};
+ghost use Rattle.std.specs.Prelude.{◌≡◌, ◌+◌, None, IfOk, OnOk, OnErr};
 ghost use Rattle.tea_io.specs.Links.{no_counts};
 ghost use Rattle.tea_io.specs.Nets.{NetCause};
 ghost use Rattle.ws_link.specs.Counting.{counts_of};
 
 use crate::address::socket_address;
-use crate::counters::Counters;
 use crate::keys::Keys;
 use crate::link::WsLink;
-use crate::stage::{Stage, limits};
+use crate::share::{WsShare, listener_in_time};
+use crate::stage::{Stage, accepting, limits};
+use crate::tally::Tally;
 use crate::watch::{News, Watch};
 use crate::wire::Wire;
+use net_shares::SharedNet;
 use std::alloc::Global;
 use std::io::ErrorKind;
 use std::net::{Net as Sockets, TcpListener, TcpStream};
@@ -20,8 +20,8 @@ use std::random::RandomSource;
 use std::time::{Clock, Duration, Instant};
 use tea_base::Text;
 use tea_io::{Net, NetFault};
-use tungstenite::handshake::{client, server};
-use tungstenite::{Error, NoCallback, RandomKeys};
+use tungstenite::handshake::client;
+use tungstenite::{Error, RandomKeys};
 
 /// How long a connect waits for the peer, in milliseconds.
 const CONNECT_TIME: u64 = 5000;
@@ -37,9 +37,9 @@ pub struct WsNet<R> {
     refusal: Option<ErrorKind>,
     /// Whether the handshake of the link that was given back last was not done.
     is_unshaken: bool,
-    faults: u64,
-    lent: usize,
-    sums: Counters,
+    tally: Tally,
+    /// How many shares are out.
+    shared: usize,
     /// Since when links are given back in a row.
     closing: Option<Instant>,
 }
@@ -47,9 +47,10 @@ pub struct WsNet<R> {
 impl<R> WsNet<R> {
     /// A net that listens nowhere yet. Takes no memory.
     pub fn new(alloc: Global, rt: R) -> WsNet<R>
-        ensures faults { result.faults ≡ 0 }
-        ensures lent { result.lent ≡ 0 }
-        ensures counts { counts_of result.sums ≡ no_counts }
+        ensures faults { result.tally.faults ≡ 0 }
+        ensures lent { result.tally.lent ≡ 0 }
+        ensures counts { counts_of result.tally.sums ≡ no_counts }
+        ensures shared { result.shared ≡ 0 }
     {
         WsNet {
             alloc,
@@ -57,18 +58,17 @@ impl<R> WsNet<R> {
             listening: None,
             refusal: None,
             is_unshaken: false,
-            faults: 0,
-            lent: 0,
-            sums: Counters::new(),
+            tally: Tally::new(),
+            shared: 0,
             closing: None,
         }
     }
 
     /// How often a call has failed.
     pub fn faults(&self) -> u64
-        ensures { result ≡ self.now.faults }
+        ensures { result ≡ self.now.tally.faults }
     {
-        self.faults
+        self.tally.faults
     }
 
     /// Why the last `listen` or `connect` failed, where it did.
@@ -82,41 +82,21 @@ impl<R> WsNet<R> {
     pub fn is_unshaken(&self) -> bool {
         self.is_unshaken
     }
-
-    /// Counts a call that failed.
-    fn fail(&mut self) -> NetFault
-        ensures counted { self.new.faults ≡ count_up self.old.faults }
-        ensures lent { self.new.lent ≡ self.old.lent }
-        ensures sums { self.new.sums ≡ self.old.sums }
-        ensures later { self.old.faults ≤ self.new.faults }
-        ensures fault { result ≡ NetFault.Failed }
-    {
-        self.faults = self.faults.saturating_add(1);
-        NetFault::Failed
-    }
 }
 
 impl<R: Clock + RandomSource + Copy> WsNet<R> {
     /// Lends a link of this stage. Where there is none, the failure is counted; being out of memory is none.
     fn lend(&mut self, made: Result<Stage<R>, NetFault>) -> Result<WsLink<R>, NetFault>
-        ensures lent { OnOk result (self.new.lent ≡ self.old.lent + 1) }
-        ensures none_lent { OnErr result (self.new.lent ≡ self.old.lent) }
+        ensures lent { OnOk result (self.new.tally.lent ≡ self.old.tally.lent + 1) }
+        ensures none_lent { OnErr result (self.new.tally.lent ≡ self.old.tally.lent) }
         ensures fresh { IfOk result (λ link. counts_of link.counters ≡ no_counts) }
-        ensures sums { self.new.sums ≡ self.old.sums }
-        ensures cause { NetCause self.old.faults self.new.faults result }
+        ensures sums { self.new.tally.sums ≡ self.old.tally.sums }
+        ensures cause { NetCause self.old.tally.faults self.new.tally.faults result }
+        ensures shared { self.new.shared ≡ self.old.shared }
     {
-        let Some(lent) = self.lent.checked_add(1) else {
-            return Err(self.fail());
-        };
-        match made {
-            Ok(stage) => {
-                self.lent = lent;
-                self.closing = None;
-                Ok(WsLink::new(self.alloc, self.rt, stage))
-            }
-            Err(NetFault::Failed) => Err(self.fail()),
-            Err(NetFault::WantOfMemory) => Err(NetFault::WantOfMemory),
-        }
+        let stage = self.tally.lend(made)?;
+        self.closing = None;
+        Ok(WsLink::new(self.alloc, self.rt, stage))
     }
 }
 
@@ -143,13 +123,14 @@ where
     }
 }
 
-/// The next connection of a listener. One that its client has given up before it was taken is no fault of the listener.
+/// The next connection of a listener. One that its client has given up before it was taken is no fault of the listener, and neither is it one that
+/// nobody came for a while.
 fn next_stream(listener: &TcpListener) -> Option<TcpStream> {
     for _ in 0..u64::MAX {
         match listener.accept() {
             Ok((stream, _)) => return Some(stream),
             Err(error) => match error.kind() {
-                ErrorKind::ConnectionAborted | ErrorKind::Interrupted => {}
+                ErrorKind::ConnectionAborted | ErrorKind::Interrupted | ErrorKind::WouldBlock => {}
                 _ => return None,
             },
         }
@@ -172,13 +153,15 @@ where
     let Some(stream) = next_stream(listener) else {
         return Err(NetFault::Failed);
     };
-    let Some(news) = news.share() else {
-        return Err(NetFault::Failed);
-    };
-    let watch = Watch::new(alloc, &rt, &stream, Some(news))?;
-    let wire = Wire::new(alloc, rt, stream, watch);
-    let handshake = server::start(alloc, wire, NoCallback, Some(limits()));
-    Ok(Stage::Accepting(handshake))
+    accepting(alloc, rt, stream, news)
+}
+
+/// A handle of the listener for a share, and the same news.
+fn parted(listening: &Option<(TcpListener, News)>) -> Option<(TcpListener, News)> {
+    let (listener, news) = listening.as_ref()?;
+    let listener = listener_in_time(listener).ok()?;
+    let news = news.share()?;
+    Some((listener, news))
 }
 
 /// A connection to an address.
@@ -237,11 +220,11 @@ where
 
     ghost asked = { λ net. None };
 
-    ghost faults = { λ net. net.faults };
+    ghost faults = { λ net. net.tally.faults };
 
-    ghost lent = { λ net. net.lent };
+    ghost lent = { λ net. net.tally.lent };
 
-    ghost link_counts = { λ net. counts_of net.sums };
+    ghost link_counts = { λ net. counts_of net.tally.sums };
 
     fn listen(&mut self, address: &Text) -> Result<(), NetFault> {
         self.listening = None;
@@ -253,7 +236,7 @@ where
             }
             Err(kind) => {
                 self.refusal = Some(kind);
-                Err(self.fail())
+                Err(self.tally.fail())
             }
         }
     }
@@ -272,18 +255,44 @@ where
             }
             Err(kind) => {
                 self.refusal = Some(kind);
-                Err(self.fail())
+                Err(self.tally.fail())
             }
         }
     }
 
     fn back(&mut self, mut conn: WsLink<R>) {
-        self.lent -= 1;
-        self.sums.add(conn.counters());
+        self.tally.take_back(conn.counters());
         self.is_unshaken = conn.is_unshaken();
         if self.closing.is_none() {
             self.closing = Instant::now(&self.rt).ok();
         }
         conn.close_since(self.closing);
+    }
+}
+
+impl<R> SharedNet for WsNet<R>
+where
+    R: Sockets<Listener = TcpListener, Stream = TcpStream> + Clock + RandomSource + Copy + Send,
+{
+    type Part = WsShare<R>;
+
+    ghost shared = { λ net. net.shared };
+
+    fn share(&mut self) -> Result<WsShare<R>, NetFault> {
+        let Some(shared) = self.shared.checked_add(1) else {
+            return Err(self.tally.fail());
+        };
+        match parted(&self.listening) {
+            Some((listener, news)) => {
+                self.shared = shared;
+                Ok(WsShare::new(self.alloc, self.rt, listener, news))
+            }
+            None => Err(self.tally.fail()),
+        }
+    }
+
+    fn rejoin(&mut self, part: WsShare<R>) {
+        self.shared -= 1;
+        self.tally.add(part.tally());
     }
 }

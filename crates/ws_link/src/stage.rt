@@ -1,14 +1,17 @@
 //! How far a link is: its handshake, its messages and its end.
 
 use crate::keys::Keys;
+use crate::watch::{News, Watch};
 use crate::wire::Wire;
 use std::alloc::Global;
 use std::io;
 use std::io::ErrorKind;
+use std::net::{Net as Sockets, TcpStream};
 use std::random::RandomSource;
 use std::time::{Clock, Instant};
 use tea_base::Blob;
-use tea_io::{Heard, LinkFault};
+use tea_io::{Heard, LinkFault, NetFault};
+use tungstenite::handshake::server;
 use tungstenite::{
     Bytes, ClientHandshake, CloseCode, CloseFrame, Error, HandshakeError, Message, MidHandshake,
     NoCallback, Role, ServerHandshake, Utf8Bytes, WebSocket, WebSocketConfig,
@@ -69,6 +72,22 @@ pub fn limits() -> WebSocketConfig {
         .max_message_size(Some(LONGEST_MESSAGE))
         .max_frame_size(Some(LONGEST_MESSAGE))
         .max_write_buffer_size(LONGEST_OUTPUT)
+}
+
+/// A connection that was accepted, whose handshake is to come, with the news of its net.
+pub fn accepting<R: Sockets + Clock + RandomSource + Copy>(
+    alloc: Global,
+    rt: R,
+    stream: TcpStream,
+    news: &News,
+) -> Result<Stage<R>, NetFault> {
+    let Some(news) = news.share() else {
+        return Err(NetFault::Failed);
+    };
+    let watch = Watch::new(alloc, &rt, &stream, Some(news))?;
+    let wire = Wire::new(alloc, rt, stream, watch);
+    let handshake = server::start(alloc, wire, NoCallback, Some(limits()));
+    Ok(Stage::Accepting(handshake))
 }
 
 /// What a failed handshake leaves: an orderly end of TCP is an end.

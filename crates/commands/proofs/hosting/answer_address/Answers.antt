@@ -7,10 +7,10 @@ use Rattle.commands.proofs.hosting.answer_address.Goals as goal
 
 pub returns-then-not-branch-clause-leads : goal.returns-then-not-branch-clause-leads
 returns-then-not-branch-clause-leads c verdict comes =
-    wrong_address input.Address (is_address (encode_utf8_all c.args.request.address)) (OfHostReady (hosting_of c.args.request c.args.ids)) verdict
+    wrong_address input.Address (is_address (encode_utf8_all c.args.request.address)) (OfHostReady (hosting_of c.args.request c.args.on_demand c.args.ids)) verdict
     (sym (rw c.as_str.ensures at c.in_ok-is_address.ensures) ∙ c.if-not-branch.true) comes
 
 pub returns-clause-leads : goal.returns-clause-leads
 returns-clause-leads c verdict comes =
-    right_address input.Address (is_address (encode_utf8_all c.args.request.address)) (OfHostReady (hosting_of c.args.request c.args.ids)) verdict
+    right_address input.Address (is_address (encode_utf8_all c.args.request.address)) (OfHostReady (hosting_of c.args.request c.args.on_demand c.args.ids)) verdict
     (sym (rw c.as_str.ensures at c.in_ok-is_address.ensures) ∙ c.if-not-branch.false) (c.ready.ensures.leads verdict comes)

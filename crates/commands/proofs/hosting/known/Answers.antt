@@ -5,8 +5,8 @@ use Rattle.commands.proofs.HostLaws.{hosted_ids}
 use Rattle.commands.proofs.hosting.known.Goals as goal
 
 pub answer_ids-requires-clause-ids : goal.answer_ids-requires-clause-ids
-answer_ids-requires-clause-ids c = hosted_ids c.args.read.now c.args.lines.now c.in-Ok.ids c.in-Ok.ensures c.requires.few
+answer_ids-requires-clause-ids c = hosted_ids c.args.read.now c.args.config.now.sessions c.in-Ok.ids (rw c.as_slice.ensures at c.in-Ok.ensures) c.requires.few
 
 pub returns-in-Ok-clause-leads : goal.returns-in-Ok-clause-leads
 returns-in-Ok-clause-leads c verdict comes =
-    subst (λ (ids : List SessionId). Free (OfHostIds c.args.request ids) verdict) c.in-Ok.ensures (c.answer_ids.ensures.leads verdict comes)
+    subst (λ (ids : List SessionId). Free (OfHostIds c.args.request c.args.config.now.on_demand ids) verdict) (rw c.as_slice.ensures at c.in-Ok.ensures) (c.answer_ids.ensures.leads verdict comes)

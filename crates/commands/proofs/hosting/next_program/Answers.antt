@@ -1,5 +1,4 @@
 use Rattle.std.proofs.Common.{List, ◌∙◌, subst}
-use Rattle.host_config.specs.declared.reading.SessionLine.{SessionLine}
 use Rattle.commands.specs.declared.hosting.ReadProgram.{ReadProgram}
 use Rattle.commands.specs.Verdict.{Free, OfHostIds, host_ids}
 use Rattle.commands.proofs.HostLaws.{fewer_left, no_more, none_left, one_left}
@@ -7,15 +6,14 @@ use Rattle.commands.proofs.hosting.next_program.Goals as goal
 
 pub returns-in-Some-clause-leads : goal.returns-in-Some-clause-leads
 returns-in-Some-clause-leads c verdict comes =
-    one_left c.args.request c.args.lines c.args.read c.args.names.items c.pop_front.new.self.items c.in-Some.program verdict c.in-Some.ensures.items comes
+    one_left c.args.request c.args.config c.args.read c.args.names.items c.pop_front.new.self.items c.in-Some.program verdict c.in-Some.ensures.items comes
 
 pub returns-in-Some-clause-fewer : goal.returns-in-Some-clause-fewer
 returns-in-Some-clause-fewer c = fewer_left c.args.names.items c.pop_front.new.self.items c.in-Some.program c.in-Some.ensures.items
 
 pub returns-in-None-clause-leads : goal.returns-in-None-clause-leads
 returns-in-None-clause-leads c verdict comes =
-    none_left c.args.request c.args.lines c.args.read c.args.names.items verdict
+    none_left c.args.request c.args.config c.args.read c.args.names.items verdict
     (no_more c.args.names.items (c.in-None.ensures.items ∙ c.pop_front.ensures.rest))
-    (subst (λ (read : List ReadProgram). Free (OfHostIds c.args.request (host_ids read c.args.lines)) verdict) c.as_slice-in-None.ensures
-    (subst (λ (lines : List SessionLine). Free (OfHostIds c.args.request (host_ids c.as_slice-in-None.result.now lines)) verdict) c.as_slice.ensures
-    (c.known.ensures.leads verdict comes)))
+    (subst (λ (read : List ReadProgram). Free (OfHostIds c.args.request c.args.config.on_demand (host_ids read c.args.config.sessions)) verdict) c.as_slice.ensures
+    (c.known.ensures.leads verdict comes))

@@ -5,4 +5,4 @@ use Rattle.commands.proofs.hosting.read_on.Goals as goal
 
 pub returns-in-Ok-clause-leads : goal.returns-in-Ok-clause-leads
 returns-in-Ok-clause-leads c verdict comes =
-    subst (λ (read : List ReadProgram). Free (OfHostPrograms c.args.wait.request c.args.wait.lines read c.args.wait.later.items) verdict) c.in-Ok.ensures.ok (c.next_program.ensures.leads verdict comes)
+    subst (λ (read : List ReadProgram). Free (OfHostPrograms c.args.wait.request c.args.wait.config read c.args.wait.later.items) verdict) c.in-Ok.ensures.ok (c.next_program.ensures.leads verdict comes)

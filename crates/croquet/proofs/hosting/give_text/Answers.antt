@@ -10,10 +10,10 @@ returns-in_default g c = ran_wanting _ _ _ c.args.files.now c.args.out.now c.tel
 
 pub returns-in-Ok-give : goal.returns-in-Ok-give
 returns-in-Ok-give g c =
-    ran_told _ _ (hosted_text c.args.hosted.now.ends c.args.hosted.now.sessions) false c.args.hosted.now.stopped (steps_of c.in-Ok.outcome.files c.in-Ok.outcome.text) (rw (c.as_slice-ends.ensures, c.as_slice.ensures) at c.in-Ok.ensures)
+    ran_told _ _ (hosted_text c.args.listed c.args.hosted.now.ids c.args.hosted.now.ends c.args.hosted.now.sessions) false c.args.hosted.now.stopped (steps_of c.in-Ok.outcome.files c.in-Ok.outcome.text) (rw (c.as_slice-ids.ensures, c.as_slice-ends.ensures, c.as_slice.ensures) at c.in-Ok.ensures)
     c.args.files.now c.give.new.files c.args.out.now c.give.new.out c.tell_end.new.out c.tell_end.result c.in-Ok-give.ensures c.tell_end.ensures
 
 pub returns : goal.returns
 returns g c =
-    ran_cut _ _ (hosted_text c.args.hosted.now.ends c.args.hosted.now.sessions) false c.args.hosted.now.stopped (steps_of c.in-Ok.outcome.files c.in-Ok.outcome.text) (rw (c.as_slice-ends.ensures, c.as_slice.ensures) at c.in-Ok.ensures)
+    ran_cut _ _ (hosted_text c.args.listed c.args.hosted.now.ids c.args.hosted.now.ends c.args.hosted.now.sessions) false c.args.hosted.now.stopped (steps_of c.in-Ok.outcome.files c.in-Ok.outcome.text) (rw (c.as_slice-ids.ensures, c.as_slice-ends.ensures, c.as_slice.ensures) at c.in-Ok.ensures)
     c.args.files.now c.give.new.files c.args.out.now c.give.new.out c.in-Err.status c.in-Err.ensures

@@ -7,4 +7,4 @@ returns-in-Ok g c = rw c.in-Ok.is c.give_hosted.ensures
 
 pub returns-in-Err : goal.returns-in-Err
 returns-in-Err g c =
-    rw c.in-Err.is (ran_unhosted _ _ (log_names c.args.logs) c.in-Err.fault c.args.files.now c.args.out.now c.tell_fault.new.out c.tell_fault.result c.tell_fault.ensures)
+    rw c.in-Err.is (ran_unhosted _ _ (log_names c.args.places.logs) c.args.places.prefix c.in-Err.fault c.args.files.now c.args.out.now c.tell_fault.new.out c.tell_fault.result c.tell_fault.ensures)

@@ -5,7 +5,7 @@ use Rattle.commands.specs.Work.{plain_hosting, plain_keeping, plain_live, plain_
 use Rattle.commands.proofs.NetLaws.{never_on_net}
 use Rattle.croquet.proofs.Completeness.{is_complete}
 use Rattle.croquet.proofs.DrillRuns.{drilled_whole, ran_drilling}
-use Rattle.croquet.proofs.HostRuns.{ran_hosting}
+use Rattle.croquet.proofs.HostRuns.{ran_hosting, rooms_are_enough}
 use Rattle.croquet.proofs.KeptRuns.{ran_kept, ran_unkept}
 use Rattle.croquet.proofs.LiveRuns.{ran_living}
 use Rattle.croquet.proofs.ReflectorRuns.{ran_reflecting}
@@ -48,6 +48,11 @@ host-net-requires-clause-ids g c _ _ =
     let some = sessions.0 in
     let few = sessions.1 in
     (rw c.as_slice.ensures (omega (arith, some)), rw c.as_slice.ensures (omega (arith, few)))
+
+pub tell_hosted-status-requires : goal.tell_hosted-status-requires
+tell_hosted-status-requires g c =
+    let rooms = c.in-Hosts.ensures.bounded.2 in
+    rooms_are_enough _ c.in-Hosts.hosting.ids c.in-Hosts.hosting.on_demand _ _ _ _ _ _ c.host-net.result.1 _ _ (rw c.as_slice.ensures at c.host-net.ensures) rooms.0 rooms.1
 
 pub returns-in-Hosts-clause-ran : goal.returns-in-Hosts-clause-ran
 returns-in-Hosts-clause-ran g c =

@@ -1,7 +1,7 @@
 use Rattle.std.proofs.Common.{◌+◌, get_or, set, sym, subst, arith}
 use Rattle.std.proofs.lemmas.Option.{slice_get-get_or}
 use Rattle.host_server.proofs.RowLaws.{SplitSoFar, split_more}
-use Rattle.host_server.proofs.rooms.split_row.Goals as goal
+use Rattle.host_server.proofs.rooms.split_seats.Goals as goal
 
 pub loop-place-preserved : goal.loop-place-preserved
 loop-place-preserved g c =
@@ -14,7 +14,7 @@ loop-place-preserved g c =
     let leads = c.loop-place.leads in
     let lead = get_or leads place c.index-leads-place.result in (
       subst (SplitSoFar (place + 1) c.args.leads.now (set leads place c.split-pass.new.lead)) (sym c.push_reserved.ensures.items)
-          (split_more place c.args.leads.now leads c.loop-place.row.items lead c.split-pass.new.lead c.split-pass.result so_far (omega (arith, below, many))
+          (split_more place c.args.leads.now leads c.loop-place.seats.items lead c.split-pass.new.lead c.split-pass.result so_far (omega (arith, below, many))
           (slice_get-get_or leads place c.index-leads-place.result (omega (arith, below, many, long))) c.split-pass.ensures),
       omega (arith, room, c.push_reserved.ensures.capacity),
     )

@@ -1,6 +1,0 @@
-use Rattle.std.proofs.Common.{◌≤◌, length, vec_capacity}
-use Rattle.host_server.proofs.RowLaws.{SplitSoFar}
-use Rattle.host_server.proofs.rooms.split_row.Given as goal
-
-abbrev pub invariant-loop-place : goal.invariant-loop-place
-invariant-loop-place g l = SplitSoFar l.place l.initial.leads l.leads l.row.items × (length l.rooms ≤ vec_capacity l.row)

@@ -1,0 +1,4 @@
+pub mod Shares
+pub mod Stops
+pub mod MemShares
+pub mod MemSharedNets
