@@ -1,6 +1,10 @@
 """`host` over sockets: several sessions in one process, each as if it were alone."""
+import base64
 import contextlib
+import os
 import re
+import select
+import signal
 import time
 
 import websocket
@@ -11,6 +15,7 @@ from websocket import BINARY, TEXT, frame
 
 LINK = re.compile(r"connection (\d+) session (\d+|none) (.+)")
 SESSION = re.compile(r"session (\d+) entries (\d+) time (\d+)( id [0-9a-f]{64})?")
+WAYS = ["left", "link-end", "link-fault", "idle", "stale", "refused", "memory", "unkept", "silent"]
 MASK = b"\x37\xfa\x21\x3d"
 SILENCE = 0.05
 
@@ -30,15 +35,17 @@ class Session:
 
 
 class Host(Reflector):
-    """A run of `host` of sessions with these names, all of one program, and of others where they are made on demand."""
+    """A run of `host` of sessions with these names, all of one program, and of others where they are made on demand. It is a service where its links are
+    not counted."""
 
-    def __init__(self, program, names, connections, source=EMPTY, port=None, on_demand=False):
+    def __init__(self, program, names, connections=None, source=EMPTY, port=None, on_demand=False, options=()):
         self.holder = None if port else hold_port()
         self.port = port or self.holder.getsockname()[1]
         self.begun, self.address = time.monotonic(), f"127.0.0.1:{self.port}"
         config = "".join(f"session {name} p\n" for name in names).encode() + b"any\n" * on_demand
+        counted = [] if connections is None else ["--connections", str(connections)]
         self.run = program.start(
-            ["host", "c", self.address, "--connections", str(connections), "--logs", "l"],
+            ["host", "c", self.address, *counted, *options, "--logs", "l"],
             {"c": config, "p": source}, f"listening at {self.address}\n".encode())
         self.wires = []
         self.sessions = [Session(self, name.encode(), source) for name in names]
@@ -47,17 +54,33 @@ class Host(Reflector):
         """A session that is not listed."""
         return Session(self, name, EMPTY)
 
+    def stop(self):
+        """Makes the file that ends a service, and looks at what came of it."""
+        with open(os.path.join(self.run.folder, "u"), "xb"):
+            pass
+        self.run.given["u"] = b""
+        return self.end()
+
 
 @contextlib.contextmanager
-def hosting(program, names, connections, on_demand=False):
+def killed_if_left(host):
     """A host that is killed where the check does not come to its end."""
-    host = Host(program, names, connections, on_demand=on_demand)
     try:
         yield host
     finally:
         if host.run.process.returncode is None:
             host.run.kill()
             host.end()
+
+
+def hosting(program, names, connections, on_demand=False):
+    return killed_if_left(Host(program, names, connections, on_demand=on_demand))
+
+
+def serving(program, names, links=None, on_demand=False):
+    """A service of so many posts, which the file `u` ends."""
+    options = ["--until", "u"] if links is None else ["--links", str(links), "--until", "u"]
+    return killed_if_left(Host(program, names, on_demand=on_demand, options=options))
 
 
 def expect_hosted(run, links, sessions, made=()):
@@ -68,7 +91,21 @@ def expect_hosted(run, links, sessions, made=()):
     expect_that(all(told), "a line for each link", lines)
     expect([str(number) for number in range(len(links))], [match[1] for match in told])
     expect(sorted(links), sorted((match[2], match[3]) for match in told))
-    rows = [SESSION.fullmatch(line) for line in lines[len(links):]]
+    return expect_sessions(run, lines[len(links):], sessions, made)
+
+
+def expect_served(run, posts, ways, sessions, made=()):
+    """In which ways the links of a service of so many posts ended, all of which were stopped, and how many entries each session has."""
+    expect(0, run.status)
+    lines = run.text.decode().splitlines()
+    counts = " ".join(f"{way} {ways.get(way, 0)}" for way in WAYS)
+    expect([f"links {counts}", f"posts {posts} stopped {posts} failed 0 memory 0 spent 0"], lines[:2])
+    return expect_sessions(run, lines[2:], sessions, made)
+
+
+def expect_sessions(run, lines, sessions, made):
+    """How many entries each session has. The last ones were made on demand, with these ids."""
+    rows = [SESSION.fullmatch(line) for line in lines]
     expect_that(len(rows) == len(sessions) and all(rows), "a line for each session", lines)
     expect([(str(number), str(entries)) for number, entries in enumerate(sessions, 1)],
            [(match[1], match[2]) for match in rows])
@@ -290,6 +327,158 @@ def one_view_is_in_two_sessions(program):
         expect(["join"] * 2 + ["exit"], sorted(kinds, reverse=True))
 
 
+# ---------------------------------------------------------------- a service
+
+
+def a_service_ends_once_its_file_is_there(program):
+    with serving(program, ["a", "b"]) as host:
+        first, second = host.sessions
+        of_second, of_first = second.view(7), first.view(7)
+        of_second.joined()
+        of_first.joined()
+        expect(2, of_second.done(b"hi")[0])
+        leave_all(of_second, of_first)
+        run = host.stop()
+    logs = expect_served(run, 64, {"left": 2}, [2, 3])
+    expect_entries(logs[0], "1:join:7 2:exit:7")
+    expect_entries(logs[1], "1:join:7 2:event:7:1:6869 3:exit:7")
+
+
+def a_service_that_serves_nobody_ends(program):
+    with serving(program, ["a"], 1) as host:
+        host.connect().close()
+        time.sleep(SILENCE)
+        run = host.stop()
+    expect_served(run, 1, {"link-end": 1, "silent": 1}, [0])
+
+
+def a_file_that_is_there_before_ends_a_service(program):
+    host = Host(program, ["a"], options=["--links", "2", "--until", "c"])
+    with killed_if_left(host):
+        run = host.end()
+    expect_served(run, 2, {}, [0])
+
+
+def a_link_is_served_to_its_end_before_a_service_ends(program):
+    with serving(program, ["a"], 2) as host:
+        view = host.sessions[0].view(7)
+        view.joined()
+        with open(os.path.join(host.run.folder, "u"), "xb"):
+            pass
+        host.run.given["u"] = b""
+        time.sleep(2.5)
+        expect(2, view.done(b"hi")[0])
+        leave_all(view)
+        run = host.end()
+    expect_entries(expect_served(run, 2, {"left": 1}, [3])[0], "1:join:7 2:event:7:1:6869 3:exit:7")
+
+
+def two_hundred_links_in_a_row_through_two_posts(program):
+    """Each joins, publishes and leaves; the sessions take turns."""
+    count = 200
+    with serving(program, ["a", "b"], 2) as host:
+        for number in range(count):
+            view = host.sessions[number % 2].view(1 + number)
+            view.joined()
+            view.done(str(number).encode())
+            leave_all(view)
+        run = host.stop()
+    logs = expect_served(run, 2, {"left": count}, [3 * count // 2] * 2)
+    for place, log in enumerate(logs):
+        events = [(entry.view, entry.payload) for entry in log.log if entry.kind == "event"]
+        expect([(1 + number, str(number).encode()) for number in range(place, count, 2)], events)
+
+
+def a_link_waits_while_all_posts_serve(program):
+    """Of three links two are served at a time, and the third one once one of these has left."""
+    with serving(program, ["a"], 2) as host:
+        first = [host.sessions[0].view(view) for view in (1, 2)]
+        for view in first:
+            view.joined()
+        third = host.connect()
+        third.say(websocket.request_of(base64.b64encode(bytes(16))))
+        expect(([], [], []), select.select([third.socket], [], [], 10 * SILENCE))
+        leave_all(first[0])
+        third.read_head()
+        third.stop_sending()
+        third.read_all()
+        leave_all(first[1])
+        run = host.stop()
+    expect_served(run, 2, {"left": 2, "link-end": 1, "silent": 1}, [4])
+
+
+def a_service_makes_sessions_on_demand(program):
+    with serving(program, ["a"], 3, on_demand=True) as host:
+        other = host.other(b"b")
+        views = [host.sessions[0].view(7), other.view(7), other.view(8)]
+        for view in views:
+            view.joined()
+        expect(3, views[1].done(b"hi")[0])
+        leave_all(*views)
+        run = host.stop()
+    expect_served(run, 3, {"left": 3}, [2, 5], [other.ident])
+
+
+def be_refused(host, count):
+    """So many links in a row, each of which joins a session that is not there."""
+    for _ in range(count):
+        wire = say_first(host, join_frame(croquet.session_id(b"c", EMPTY), 7))
+        wire.read_all()
+        host.wires.remove(wire)
+        wire.close()
+
+
+def memory_of(process):
+    """How many kilobytes a process has in memory."""
+    with open(f"/proc/{process.pid}/status", encoding="utf-8") as file:
+        return next(int(line.split()[1]) for line in file if line.startswith("VmRSS:"))
+
+
+def links_that_come_and_go_take_no_more_memory(program):
+    with serving(program, ["a"], 8) as host:
+        be_refused(host, 200)
+        before = memory_of(host.run.process)
+        be_refused(host, 2000)
+        grown = memory_of(host.run.process) - before
+        run = host.stop()
+    expect_that(grown <= 256, "256 kilobytes at most for 2,000 links more", grown)
+    expect_served(run, 8, {"refused": 2200}, [0])
+
+
+def work_of(process):
+    """How many seconds a process has had of a processor."""
+    with open(f"/proc/{process.pid}/stat", encoding="utf-8") as file:
+        fields = file.read().rpartition(")")[2].split()
+    return (int(fields[11]) + int(fields[12])) / os.sysconf("SC_CLK_TCK")
+
+
+def a_service_to_which_nobody_comes_rests(program):
+    with serving(program, ["a"]) as host:
+        host.connect().close()
+        time.sleep(SILENCE)
+        before = work_of(host.run.process)
+        time.sleep(3)
+        worked = work_of(host.run.process) - before
+        host.stop()
+    expect_that(worked <= 0.3, "0.3 seconds of a processor at most in 3", worked)
+
+
+def a_service_that_is_killed_writes_nothing(program):
+    host = Host(program, ["a"], options=["--links", "2"])
+    with killed_if_left(host):
+        view = host.sessions[0].view(7)
+        view.joined()
+        host.run.kill()
+        run = host.end()
+    expect((-signal.SIGKILL, b"", {}), (run.status, run.text, run.files))
+
+
+SERVICES = [a_service_ends_once_its_file_is_there, a_service_that_serves_nobody_ends, a_file_that_is_there_before_ends_a_service,
+            a_link_is_served_to_its_end_before_a_service_ends, two_hundred_links_in_a_row_through_two_posts,
+            a_link_waits_while_all_posts_serve, a_service_makes_sessions_on_demand, links_that_come_and_go_take_no_more_memory,
+            a_service_to_which_nobody_comes_rests,
+            a_service_that_is_killed_writes_nothing]
+
 HOSTS = [two_sessions_have_their_own_links, a_session_that_is_not_listed_is_refused_by_the_first, a_link_without_a_frame_has_no_session,
          sessions_are_made_on_demand, two_links_that_join_one_id_are_in_one_session, a_request_that_is_refused_makes_its_session,
          a_first_frame_that_joins_nothing_makes_no_session, no_link_asks_for_a_session,
@@ -297,7 +486,7 @@ HOSTS = [two_sessions_have_their_own_links, a_session_that_is_not_listed_is_refu
 
 
 def host_cases():
-    return ([Case(check.__name__.replace("_", " "), check) for check in HOSTS]
+    return ([Case(check.__name__.replace("_", " "), check) for check in HOSTS + SERVICES]
             + [Case(f"the first frame is {what}", first_frame(*of)) for what, of in FIRST_FRAMES.items()])
 
 

@@ -1,2 +1,3 @@
 pub mod Hosting
 pub mod HostedSteps
+pub mod PostsEnded

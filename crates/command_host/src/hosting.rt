@@ -6,6 +6,7 @@ ghost use Rattle.id_claims.specs.Ids.{most_ids};
 
 use command_outcome::numbered_name;
 use command_reflect::LogPlace;
+use command_words::HostSpan;
 use host_server::SessionIds;
 use id_claims::MOST_IDS;
 use session_log::Room;
@@ -28,8 +29,8 @@ pub struct Hosting {
     pub on_demand: bool,
     /// The address at which the host listens.
     pub address: Text,
-    /// How many links it accepts, from 1 to 64.
-    pub connections: u32,
+    /// How long it serves.
+    pub span: HostSpan,
     /// Where each listed session is put in the end.
     pub logs: LogPlaces,
     /// With what the names of the files begin.

@@ -8,6 +8,8 @@ use Rattle.command_words.specs.declared.words.TraceRequest.{TraceRequest}
 use Rattle.command_words.specs.declared.words.JoinRequest.{JoinRequest}
 use Rattle.command_words.specs.declared.words.LiveRequest.{LiveRequest}
 use Rattle.command_words.specs.declared.words.ReflectRequest.{ReflectRequest}
+use Rattle.command_words.specs.declared.words.HostSpan.{HostSpan}
+use Rattle.command_words.specs.declared.words.HostSpan.TheVariants as host_span
 use Rattle.command_words.specs.declared.words.HostRequest.{HostRequest}
 use Rattle.command_words.specs.declared.words.DrillRequest.{DrillRequest}
 use Rattle.command_words.specs.declared.words.Command.{Command}
@@ -50,9 +52,14 @@ AreConnections count = (1 ≤ count) × (count ≤ most_connections)
 abbrev pub IsBoundedReflect : ReflectRequest → Type 0
 IsBoundedReflect request = (length (encode_utf8_all request.name) ≤ most_name) × AreConnections request.connections
 
--- a host has so many connections
+-- a host accepts so many links, or has so many posts
+abbrev pub IsBoundedSpan : HostSpan → Type 0
+IsBoundedSpan (host_span.Connections count) = AreConnections count
+IsBoundedSpan (host_span.Posts links until) = AreConnections links
+
+-- a host serves so long
 abbrev pub IsBoundedHost : HostRequest → Type 0
-IsBoundedHost request = AreConnections request.connections
+IsBoundedHost request = IsBoundedSpan request.span
 
 -- from 1 to the most views
 abbrev pub AreViews : ℕ → Type 0

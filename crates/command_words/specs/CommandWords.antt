@@ -9,6 +9,8 @@ use Rattle.command_words.specs.declared.words.TraceRequest.{TraceRequest}
 use Rattle.command_words.specs.declared.words.JoinRequest.{JoinRequest}
 use Rattle.command_words.specs.declared.words.LiveRequest.{LiveRequest}
 use Rattle.command_words.specs.declared.words.ReflectRequest.{ReflectRequest}
+use Rattle.command_words.specs.declared.words.HostSpan.{HostSpan}
+use Rattle.command_words.specs.declared.words.HostSpan.TheVariants as host_span
 use Rattle.command_words.specs.declared.words.Command.{Command}
 use Rattle.command_words.specs.declared.words.Command.TheVariants.{Stamp, Check, Replay, Inspect, Trace, Votes, Hub, Join, Live, Reflect, Host, Drill}
 use Rattle.command_words.specs.Parts.{Parts, all_parts, are_all_taken, behind_first, without_option, first_positional, has_dash, value_of}
@@ -52,6 +54,17 @@ positional such rest parts = option_and_then (λ found. rest found (behind_first
 abbrev pub needed : {A : Type 0} → LineWord → (LineWord → Option A) → (A → Reading) → Reading
 needed option such rest parts =
     option_and_then (λ found. rest found (without_option option parts)) (option_and_then such (value_of option parts))
+
+-- what such a word is; where there is none, this
+abbrev pub value_or : {A : Type 0} → A → (LineWord → Option A) → Option LineWord → Option A
+value_or default such None = Some default
+value_or default such (Some word) = such word
+
+-- an option that stands at most once, whose value is such a word; where it does not stand, this is its value
+abbrev pub preset : {A : Type 0} → LineWord → A → (LineWord → Option A) → (A → Reading) → Reading
+preset option default such rest parts =
+    option_and_then (λ found. rest found (without_option option parts))
+    (value_or default such (value_of option parts))
 
 -- an option that stands at most once
 abbrev pub free : LineWord → (Option LineWord → Reading) → Reading
@@ -223,14 +236,35 @@ reflect_row = (
       positional a_name (λ name. positional a_word (λ address. reflect_ends program name address))),
 )
 
--- `host CONFIG ADDRESS --connections N --logs PREFIX`
+-- `--logs PREFIX`
+abbrev pub host_logs : LineWord → LineWord → HostSpan → Reading
+host_logs config address span =
+    needed (codes "--logs") a_word (λ logs.
+    asks (Host (record { config = config; address = address; span = span; logs = logs })))
+
+-- the value of `--connections`, and the other option
+abbrev pub host_counted : LineWord → LineWord → LineWord → Reading
+host_counted config address word parts =
+    option_and_then (λ count. host_logs config address (host_span.Connections count) parts)
+    (a_number 1 most_connections word)
+
+-- `[--links P] [--until FILE]`, and the other option; without `--links` there are as many posts as there may be
+abbrev pub host_posts : LineWord → LineWord → Reading
+host_posts config address =
+    preset (codes "--links") most_connections (a_number 1 most_connections) (λ links.
+    free (codes "--until") (λ until. host_logs config address (host_span.Posts links until)))
+
+-- what may be said where `--connections` has this value, or does not stand
+abbrev pub host_options : LineWord → LineWord → Option LineWord → Reading
+host_options config address None = host_posts config address
+host_options config address (Some word) = host_counted config address word
+
+-- `host CONFIG ADDRESS`, and `--connections N` or `[--links P] [--until FILE]`, and `--logs PREFIX`
 abbrev pub host_row : Row
 host_row = (
   codes "host",
   positional a_word (λ config.
-      positional a_word (λ address. needed (codes "--connections") (a_number 1 most_connections) (λ connections.
-      needed (codes "--logs") a_word (λ logs.
-      asks (Host (record { config = config; address = address; connections = connections; logs = logs })))))),
+      positional a_word (λ address. free (codes "--connections") (host_options config address))),
 )
 
 -- `drill SEED VIEWS EVENTS --log FILE --snapshots PREFIX`

@@ -1,10 +1,11 @@
 //! The words of the command line, read by the rows of the commands.
 ghost use Rattle.std.specs.Prelude.{◌≡◌, ◌≤◌, ◌<◌, IfOk, IfSome, encode_utf8_all, length};
 ghost use Rattle.std.specs.Option.{option_and_then};
+ghost use Rattle.run_steps.specs.Limits.{most_connections};
 ghost use Rattle.tea_base.specs.Limits.{time_limit};
 ghost use Rattle.command_words.specs.Parts.{behind_first, first_positional};
-ghost use Rattle.command_words.specs.CommandWords.{a_name, a_number, a_time, asks, check_row, command_of, drill_row, host_row, hub_row, inspect_options, inspect_row, join_row, join_ends, join_options, live_options, most_name, read_by, reflect_files, reflect_options, reflect_row, replay_options, replay_puts, replay_row, rows, stamp_row, reflect_ends, trace_options, trace_row, votes_row};
-ghost use Rattle.command_words.specs.Bounds.{IsBounded, IsBoundedInspect, IsBoundedJoin, IsBoundedLive, IsBoundedReflect, IsWithinBounds, IsBoundedTrace};
+ghost use Rattle.command_words.specs.CommandWords.{a_name, a_number, a_time, asks, check_row, command_of, drill_row, host_counted, host_logs, host_posts, host_row, hub_row, inspect_options, inspect_row, join_row, join_ends, join_options, live_options, most_name, read_by, reflect_files, reflect_options, reflect_row, replay_options, replay_puts, replay_row, rows, stamp_row, reflect_ends, trace_options, trace_row, value_or, votes_row};
+ghost use Rattle.command_words.specs.Bounds.{AreConnections, IsBounded, IsBoundedInspect, IsBoundedJoin, IsBoundedLive, IsBoundedReflect, IsBoundedSpan, IsWithinBounds, IsBoundedTrace};
 
 use crate::parts::{Parts, is_word, read_parts};
 use run_steps::{MOST_CONNECTIONS, MOST_DRILL_EVENTS, MOST_DRILL_VIEWS};
@@ -53,7 +54,7 @@ pub enum Command {
     /// `reflect PROGRAM NAME ADDRESS [--persisted JSON] [--from LOG] [--journal FILE] [--log FILE] --connections N`, with a journal or a
     /// log at least
     Reflect(ReflectRequest),
-    /// `host CONFIG ADDRESS --connections N --logs PREFIX`
+    /// `host CONFIG ADDRESS --logs PREFIX`, and either `--connections N`, or `[--links P] [--until FILE]`
     Host(HostRequest),
     /// `drill SEED VIEWS EVENTS --log FILE --snapshots PREFIX`
     Drill(DrillRequest),
@@ -154,14 +155,27 @@ pub struct ReflectRequest {
     pub log: Option<Text>,
 }
 
+/// How long a host serves.
+#[derive(Drop)]
+pub enum HostSpan {
+    /// Until it has accepted so many links, from 1 to 64, and all of them have ended.
+    Connections(u32),
+    /// Without an end that is counted: so many posts, from 1 to 64, take one link after the other.
+    Posts {
+        links: u32,
+        /// The file whose being there ends it. Where none is named, it goes on until it is killed.
+        until: Option<Text>,
+    },
+}
+
 /// What a host of many sessions is asked for.
 #[derive(Drop)]
 pub struct HostRequest {
     /// The file of its configuration.
     pub config: Text,
     pub address: Text,
-    /// How many links it accepts, from 1 to 64.
-    pub connections: u32,
+    /// How long it serves.
+    pub span: HostSpan,
     /// Where its sessions are put in the end: each name is this, and then the number of the session.
     pub logs: Text,
 }
@@ -520,22 +534,64 @@ fn reflect(mut parts: Parts) -> Option<Command>
     reflect_ends(parts, program, name, address)
 }
 
-/// `host CONFIG ADDRESS --connections N --logs PREFIX`
+/// The last option of `host`: `--logs PREFIX`
+fn host_logs(mut parts: Parts, config: Text, address: Text, span: HostSpan) -> Option<Command>
+    requires { IsBoundedSpan span }
+    ensures read { result ≡ host_logs config address span parts }
+    ensures bounds { IfSome result IsWithinBounds }
+{
+    let logs = parts.option("--logs")?;
+    let request = HostRequest {
+        config,
+        address,
+        span,
+        logs,
+    };
+    ask(Command::Host(request), &parts)
+}
+
+/// The number that the value of an option spells, or the greatest one where the option does not stand.
+fn count_or_most(word: Option<Text>) -> Option<u32>
+    ensures read { result ≡ value_or most_connections (a_number 1 most_connections) word }
+    ensures bounds { IfSome result AreConnections }
+{
+    match word {
+        Some(word) => number_within(&word, 1, MOST_CONNECTIONS),
+        None => Some(MOST_CONNECTIONS),
+    }
+}
+
+/// The options of `host` without `--connections`: `[--links P] [--until FILE]`, and the other one
+fn host_posts(mut parts: Parts, config: Text, address: Text) -> Option<Command>
+    ensures read { result ≡ host_posts config address parts }
+    ensures bounds { IfSome result IsWithinBounds }
+{
+    let links = count_or_most(parts.option("--links"))?;
+    let until = parts.option("--until");
+    let span = HostSpan::Posts { links, until };
+    host_logs(parts, config, address, span)
+}
+
+/// The options of `host` where `--connections` has this value
+fn host_counted(parts: Parts, config: Text, address: Text, word: Text) -> Option<Command>
+    ensures read { result ≡ host_counted config address word parts }
+    ensures bounds { IfSome result IsWithinBounds }
+{
+    let count = number_within(&word, 1, MOST_CONNECTIONS)?;
+    host_logs(parts, config, address, HostSpan::Connections(count))
+}
+
+/// `host CONFIG ADDRESS`, and its options
 fn host(mut parts: Parts) -> Option<Command>
     ensures read { result ≡ host_row.1 parts }
     ensures bounds { IfSome result IsWithinBounds }
 {
     let config = parts.positional()?;
     let address = parts.positional()?;
-    let connections = number_within(&parts.option("--connections")?, 1, MOST_CONNECTIONS)?;
-    let logs = parts.option("--logs")?;
-    let request = HostRequest {
-        config,
-        address,
-        connections,
-        logs,
-    };
-    ask(Command::Host(request), &parts)
+    match parts.option("--connections") {
+        Some(word) => host_counted(parts, config, address, word),
+        None => host_posts(parts, config, address),
+    }
 }
 
 /// `drill SEED VIEWS EVENTS --log FILE --snapshots PREFIX`

@@ -42,6 +42,7 @@ use Rattle.command_words.specs.declared.words.JoinRequest.{JoinRequest}
 use Rattle.command_words.specs.declared.words.LiveRequest.{LiveRequest}
 use Rattle.command_words.specs.declared.words.ReflectRequest.{ReflectRequest}
 use Rattle.command_words.specs.declared.words.HostRequest.{HostRequest}
+use Rattle.command_words.specs.declared.words.HostSpan.{HostSpan}
 use Rattle.command_words.specs.declared.words.DrillRequest.{DrillRequest}
 use Rattle.command_words.specs.declared.words.Command.{Command}
 use Rattle.command_words.specs.declared.words.Command.TheVariants.{Stamp, Check, Replay, Inspect, Trace, Votes, Hub, Join, Live, Reflect, Host, Drill}
@@ -70,7 +71,9 @@ use Rattle.host_config.specs.declared.reading.Config.{Config}
 use Rattle.host_config.specs.declared.reading.SessionLine.{SessionLine}
 use Rattle.host_server.specs.declared.hosting.HostEnd.{HostEnd}
 use Rattle.command_host.specs.Hosting.{numbered_names, on_demand_names, session_puts}
-use Rattle.command_host.specs.HostedSteps.{hosted_text}
+use Rattle.command_host.specs.HostedSteps.{hosted_text, posts_text}
+use Rattle.command_host.specs.PostsEnded.{posts_fault}
+use Rattle.host_posts.specs.declared.posting.PostOutcome.{PostOutcome}
 use Rattle.commands.specs.declared.hosting.ReadProgram.{ReadProgram}
 use Rattle.command_drill.specs.DrilledSteps.{drilled_steps}
 
@@ -111,13 +114,13 @@ pub record PlainKeeping : Type 0 where
   pub opening : Option PlainStored
   pub log : Option (List ℕ)
 
--- what a host serves: the ids of its listed sessions, whether sessions are made on demand, the address, how many links it accepts, where it puts
--- each listed session, and with what the names of the others begin
+-- what a host serves: the ids of its listed sessions, whether sessions are made on demand, the address, how long it serves, where it puts each
+-- listed session, and with what the names of the others begin
 pub record PlainHosting : Type 0 where
   pub ids : List SessionId
   pub on_demand : Bool
   pub address : List ℕ
-  pub connections : ℕ
+  pub span : HostSpan
   pub logs : List (List ℕ)
   pub prefix : List ℕ
 
@@ -596,7 +599,7 @@ hosting_of request on_demand ids =
       ids = ids;
       on_demand = on_demand;
       address = request.address;
-      connections = request.connections;
+      span = request.span;
       logs = numbered_names request.logs 1 ids;
       prefix = request.logs;
     }
@@ -642,14 +645,30 @@ put_steps puts = map (λ put. Puts put.name put.bytes) puts
 abbrev pub made_puts : ℕ → List ℕ → List SessionId → List SessionState → List Put
 made_puts listed prefix ids sessions = session_puts (on_demand_names prefix (drop listed ids)) (drop listed sessions)
 
--- What comes of sessions after their host. Each listed one is put first, and want of memory comes in place of no put of these. Then those that were
--- made on demand are put, and only their names may want memory. Then the text of all is printed, which may want it too.
+-- Sessions that were hosted are put, and then the command is over so. Each listed one is put first, and want of memory comes in place of no put of
+-- these. Then those that were made on demand are put, and only their names may want memory. What comes behind them may want it too.
+abbrev pub OfHostPuts : List (List ℕ) → List ℕ → List SessionId → List SessionState → Verdict → Coming
+OfHostPuts logs prefix ids sessions verdict =
+    ThenAll (put_steps (session_puts logs sessions)) (Free
+    (ThenAll (put_steps (made_puts (length logs) prefix ids sessions)) (Free (Only verdict))))
+
+-- what comes of sessions after their host: they are put, and then the text of all is printed
 abbrev pub OfHostEnds : List (List ℕ) → List ℕ → List SessionId → List HostEnd → List SessionState → Option NetFault → Coming
 OfHostEnds logs prefix ids ends sessions stopped =
-    let listed = length logs in
-    ThenAll (put_steps (session_puts logs sessions)) (Free
-    (ThenAll (put_steps (made_puts listed prefix ids sessions)) (Free
-    (Only (hosted_verdict listed ids ends sessions stopped)))))
+    OfHostPuts logs prefix ids sessions (hosted_verdict (length logs) ids ends sessions stopped)
+
+-- the text of sessions that posts have hosted, so many of which were listed, is printed
+abbrev pub posts_verdict : ℕ → List SessionId → List PostOutcome → List SessionState → Verdict
+posts_verdict listed ids posts sessions =
+    record {
+      steps = Prints (posts_text listed ids posts sessions) ∷ [];
+      closing = reflected_closing false (posts_fault posts);
+    }
+
+-- what comes of sessions after their posts: so too
+abbrev pub OfPostEnds : List (List ℕ) → List ℕ → List SessionId → List PostOutcome → List SessionState → Coming
+OfPostEnds logs prefix ids posts sessions =
+    OfHostPuts logs prefix ids sessions (posts_verdict (length logs) ids posts sessions)
 
 -- ---- drill
 

@@ -44,7 +44,7 @@ use Rattle.view_script.specs.ViewScript.{view_script_of}
 use Rattle.commands.specs.declared.work.Next.{Next}
 use Rattle.commands.specs.declared.work.Next.TheVariants as next
 use Rattle.view_script.specs.PlainLine.{plain_lines}
-use Rattle.command_words.specs.Bounds.{AreConnections, IsBounded, IsBoundedDrill, IsBoundedHost, IsBoundedInspect, IsBoundedJoin, IsBoundedLive, IsBoundedReflect, IsBoundedTrace}
+use Rattle.command_words.specs.Bounds.{AreConnections, IsBounded, IsBoundedDrill, IsBoundedHost, IsBoundedInspect, IsBoundedJoin, IsBoundedLive, IsBoundedReflect, IsBoundedSpan, IsBoundedTrace}
 use Rattle.command_outcome.specs.Outcome.{steps_of}
 use Rattle.commands.specs.Keeping.{OfFoundingLog}
 use Rattle.commands.specs.Verdict.{Verdict, PlainHosting, PlainKeeping, PlainLive, PlainReflection, PlainVisit, ByDrill, ByKeeping, ByLive, ByRefusal, ByVisit, ByWant, Coming, Only, OfConfig, OfFile, OfFounded, OfHostPrograms, OfHostReady, OfHubScript, OfInspect, OfJoin, OfJson, OfLive, OfTimeLine, OfInspectedLog, OfProgram, OfQueries, OfLog, OfRecorded, OfReflect, OfReflected, OfScript, OfServed, OfSnapshot, OfTree, PlainSource, OfViewScript, ask_file, at_once, count_verdict, fine, founded, keeps_few, live_of, most_config, most_log, most_queries, most_script, session_id_of, stamp_verdict, visit_to, OfTrace, OfTraced, OfTracedLog, votes_verdict, OfReady}
@@ -324,7 +324,7 @@ plain_hosting hosting = record {
   ids = hosting.ids;
   on_demand = hosting.on_demand;
   address = hosting.address;
-  connections = hosting.connections;
+  span = hosting.span;
   logs = log_names hosting.logs;
   prefix = hosting.prefix;
 }
@@ -339,9 +339,9 @@ HasRooms hosting =
     (length hosting.logs ≡ length hosting.ids)
     × (length hosting.rooms ≡ rooms_for hosting.on_demand (length hosting.ids))
 
--- a host accepts from 1 to the most links, has such sessions, and has memory for all that it may put
+-- a host serves so long as it may, has such sessions, and has memory for all that it may put
 abbrev pub IsBoundedHosting : Hosting → Type 0
-IsBoundedHosting hosting = AreConnections hosting.connections × AreHosted hosting.ids × HasRooms hosting
+IsBoundedHosting hosting = IsBoundedSpan hosting.span × AreHosted hosting.ids × HasRooms hosting
 
 -- a time line is that of a recorded session, keeps a world after each so many entries, and not too many worlds
 pub record IsTimeLineOf (recording : Recording) (every : ℕ) (line : LineView) : Type 0 where

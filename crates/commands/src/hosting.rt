@@ -124,7 +124,7 @@ fn hosting_of(
     let HostRequest {
         config: _,
         address,
-        connections,
+        span,
         logs: prefix,
     } = request;
     Ok(Hosting {
@@ -133,7 +133,7 @@ fn hosting_of(
         ids,
         on_demand,
         address,
-        connections,
+        span,
         prefix,
     })
 }

@@ -1,5 +1,5 @@
 -- A command whose inputs are right, and no call of which has failed, is done, or runs out of memory.
-use Rattle.std.proofs.Common.{◌≡◌, ◌⊎◌, inl, inr, ℕ, ℤ, ◌≤◌, Bool, true, false, List, [], ◌∷◌, ◌++◌, length, replicate, Option, Some, None, Result, Ok, Err, refl, sym, subst}
+use Rattle.std.proofs.Common.{◌≡◌, ◌⊎◌, inl, inr, ℕ, ℤ, ◌≤◌, false, List, [], ◌∷◌, ◌++◌, length, replicate, Option, Some, None, Result, Ok, Err, refl, sym, subst}
 use Rattle.tea_base.specs.declared.entry.SessionId.{SessionId}
 use Rattle.tea_base.specs.declared.want.WantOfMemory.{WantOfMemory}
 use Rattle.tea_io.specs.Told.{Rose}
@@ -19,10 +19,13 @@ use Rattle.tea_io.specs.declared.net.NetFault.{NetFault}
 use Rattle.tea_io.specs.declared.net.NetFault.TheVariants as net_fault
 use Rattle.reflect_server.specs.Rounds.{CountsStop}
 use Rattle.reflect_server.specs.declared.reflection.Reflected.{Reflected}
-use Rattle.host_server.specs.declared.hosting.HostEnd.{HostEnd}
 use Rattle.host_server.specs.declared.hosting.Hosted.{Hosted}
 use Rattle.command_host.specs.Hosting.{session_puts}
-use Rattle.command_host.specs.HostedSteps.{hosted_text}
+use Rattle.host_posts.specs.Hosts.{idle_post}
+use Rattle.host_posts.specs.Shares.{SharesTell}
+use Rattle.host_posts.specs.declared.posting.HostedOn.{HostedOn}
+use Rattle.command_host.specs.HostedSteps.{hosted_text, posts_text}
+use Rattle.command_host.specs.PostsEnded.{posts_fault}
 use Rattle.command_outcome.specs.declared.outcome.Put.{Put}
 use Rattle.reflect_server.specs.declared.reflection.ServeFault.{ServeFault}
 use Rattle.reflect_server.specs.declared.reflection.ServeFault.TheVariants as serve_fault
@@ -33,7 +36,7 @@ use Rattle.drill.specs.Drill.{drill_id}
 use Rattle.drill.specs.Ending.{root_total}
 use Rattle.drill.specs.declared.report.DrillReport.{DrillReport}
 use Rattle.commands.specs.Laws.{AreAlike, IsFunction, TellsPlace}
-use Rattle.commands.specs.Verdict.{ByDrill, ByHosting, ByReflecting, ByVisit, ByWant, Closing, Coming, Comes, Fine, Free, OfEnds, OfHostEnds, OfWords, Only, PlainHosting, PlainReflection, PlainVisit, ThenAll, Verdict, fine, made_puts, put_steps}
+use Rattle.commands.specs.Verdict.{ByDrill, ByHosting, ByReflecting, ByVisit, ByWant, Closing, Coming, Comes, Fine, Free, OfEnds, OfHostPuts, OfWords, Only, PlainHosting, PlainReflection, PlainVisit, ThenAll, Verdict, fine, made_puts, put_steps}
 use Rattle.commands.specs.Work.{AsksNoLive, NamesNoJournal}
 use Rattle.commands.proofs.NetLaws.{never_keeps, never_lives}
 use Rattle.journal_store.specs.Stores.{StoresTell}
@@ -41,11 +44,12 @@ use Rattle.live_shell.specs.LiveSteps.{FeedTells}
 use Rattle.croquet.specs.declared.status.Status.{Status}
 use Rattle.croquet.specs.Complete.{HasRightInput, IsByPeer, IsComplete, IsDone, IsDueOf, NoLinkFailed, NoneFailed}
 use Rattle.croquet.specs.Drills.{OfDrilled}
-use Rattle.croquet.specs.Run.{Concludes, Ending, OutOfMemory, OfHosted, OfReflected, Ran, RanAlone, RanAsDrill, RanAsHost, RanAsReflector, RanBySteps, ServesHost, ServesNet, Visits}
+use Rattle.croquet.specs.Run.{Concludes, Ending, OutOfMemory, OfHosted, OfHostedOn, OfReflected, Ran, RanAlone, RanAsDrill, RanAsHost, RanAsReflector, RanAsService, RanBySteps, ServesHost, ServesNet, ServesPosts, Visits}
 use Rattle.view_follows.specs.Answered.{AnsweredVisitsHaveNoFault, VisitsEndByRefusals, VisitsEndWithLinks}
 use Rattle.croquet.proofs.Causes.{is_caused}
 use Rattle.croquet.proofs.Counts.{CountsStay, EndsDone, EndsSaid, counts_on, counts_stay, done_by, net_moves, none_in_steps, none_within, rose_within, run_keeps, said_by, steps_keep}
 use Rattle.croquet.proofs.LinkCounts.{HasFailed, IsCutByWant, cut_by_want, faults, rises, steps_lower_none}
+use Rattle.croquet.proofs.PostCounts.{counts_posts, sunk_or_rose}
 use Rattle.croquet.proofs.ReflectorRuns.{closed_with}
 use Rattle.croquet.proofs.RightSteps.{AreRight, IsGiving, giving_are_right, goes_along}
 use Rattle.croquet.proofs.RightVerdicts.{ClosesByVisit, ClosesWell, ComesRight, giving, words_right}
@@ -100,19 +104,18 @@ reflected_alike None ends session stopped verdict fine comes = text_alike (refle
 reflected_alike (Some name) ends session stopped verdict fine (rest, is, comes) =
     subst (λ (v : Verdict). AreAlike (reflected_steps (Some name) ends session) Fine v.steps v.closing) (sym is) (refl, text_alike (reflected_text ends session) stopped rest fine comes)
 
--- what is put and printed of sessions that were hosted
-abbrev hosted_steps : List (List ℕ) → List ℕ → List SessionId → List HostEnd → List SessionState → List Step
-hosted_steps logs prefix ids ends sessions =
-    put_steps (session_puts logs sessions) ++ (put_steps (made_puts (length logs) prefix ids sessions) ++ Prints (hosted_text (length logs) ids ends sessions) ∷ [])
+-- what is put of sessions that were hosted, and then printed
+abbrev hosted_steps : List (List ℕ) → List ℕ → List SessionId → List SessionState → List ℕ → List Step
+hosted_steps logs prefix ids sessions text = put_steps (session_puts logs sessions) ++ (put_steps (made_puts (length logs) prefix ids sessions) ++ Prints text ∷ [])
 
 puts_give : (puts : List Put) (steps : List Step) → IsGiving steps → IsGiving (put_steps puts ++ steps)
 puts_give [] steps gives = gives
 puts_give (put ∷ puts) steps gives = puts_give puts steps gives
 
-hosted_gives : (logs : List (List ℕ)) (prefix : List ℕ) (ids : List SessionId) (ends : List HostEnd) (sessions : List SessionState) → IsGiving (hosted_steps logs prefix ids ends sessions)
-hosted_gives logs prefix ids ends sessions =
+hosted_gives : (logs : List (List ℕ)) (prefix : List ℕ) (ids : List SessionId) (sessions : List SessionState) (text : List ℕ) → IsGiving (hosted_steps logs prefix ids sessions text)
+hosted_gives logs prefix ids sessions text =
     let made = made_puts (length logs) prefix ids sessions in
-    let printed : List Step = Prints (hosted_text (length logs) ids ends sessions) ∷ [] in
+    let printed : List Step = Prints text ∷ [] in
     puts_give (session_puts logs sessions) (put_steps made ++ printed) (puts_give made printed tt)
 
 puts_alike : (puts : List Put) (steps more : List Step) (closing : Closing) → AreAlike steps Fine more closing → AreAlike (put_steps puts ++ steps) Fine (put_steps puts ++ more) closing
@@ -130,12 +133,11 @@ made_alike puts text stopped verdict fine (inr (rest, is, comes)) =
     (puts_alike puts (Prints text ∷ []) rest.steps rest.closing (text_alike text stopped rest fine comes))
 
 hosted_alike
-    : (logs : List (List ℕ)) (prefix : List ℕ) (ids : List SessionId) (ends : List HostEnd) (sessions : List SessionState) (stopped : Option NetFault) (verdict : Verdict) → (stopped ≡ Some net_fault.Failed → ⊥)
-    → OfHostEnds logs prefix ids ends sessions stopped verdict → AreAlike (hosted_steps logs prefix ids ends sessions) Fine verdict.steps verdict.closing
-hosted_alike logs prefix ids ends sessions stopped verdict fine (rest, is, comes) =
+    : (logs : List (List ℕ)) (prefix : List ℕ) (ids : List SessionId) (sessions : List SessionState) (text : List ℕ) (stopped : Option NetFault) (verdict : Verdict) → (stopped ≡ Some net_fault.Failed → ⊥)
+    → OfHostPuts logs prefix ids sessions (closed_with text false stopped) verdict → AreAlike (hosted_steps logs prefix ids sessions text) Fine verdict.steps verdict.closing
+hosted_alike logs prefix ids sessions text stopped verdict fine (rest, is, comes) =
     let made = made_puts (length logs) prefix ids sessions in
-    let text = hosted_text (length logs) ids ends sessions in
-    subst (λ (v : Verdict). AreAlike (hosted_steps logs prefix ids ends sessions) Fine v.steps v.closing) (sym is)
+    subst (λ (v : Verdict). AreAlike (hosted_steps logs prefix ids sessions text) Fine v.steps v.closing) (sym is)
     (puts_alike (session_puts logs sessions) (put_steps made ++ Prints text ∷ []) rest.steps rest.closing (made_alike made text stopped rest fine comes))
 
 -- and of a drill
@@ -286,14 +288,39 @@ module _ {F W N L : Type 0} (files : FilesTell F) (out : OutputTells W) (net : N
         done_giving [] (OfReflected reflection.log (Err serve_fault.WantOfMemory)) served new result ran tt (inl ran.course.comes) (none_behind serves.0.faults serves.1)
 
     hosted
-        : (hosting : PlainHosting) (answer : Result Hosted ServeFault) → ServesHost gives (outside_tells files out net links) hosting answer ready served
+        : (hosting : PlainHosting) (connections : ℕ) (answer : Result Hosted ServeFault) → ServesHost gives (outside_tells files out net links) hosting connections answer ready served
         → (ran : RanBySteps (outside_tells files out net links) (OfHosted hosting.logs hosting.prefix answer) served new result) → CountsStay files out net served new → IsDone result
-    hosted hosting (Ok host) serves ran last =
-        told (hosted_steps hosting.logs hosting.prefix host.ids host.ends host.sessions) host.stopped (OfHosted hosting.logs hosting.prefix (Ok host)) (hosted_gives hosting.logs hosting.prefix host.ids host.ends host.sessions)
-        (λ v fine comes. hosted_alike hosting.logs hosting.prefix host.ids host.ends host.sessions host.stopped v fine comes) serves.0.faults serves.1 ran last
-    hosted hosting (Err serve_fault.ListenFault) serves ran last = absurd (net_is_fine last serves.0.faults)
-    hosted hosting (Err serve_fault.WantOfMemory) serves ran last =
+    hosted hosting connections (Ok host) serves ran last =
+        let text = hosted_text (length hosting.logs) host.ids host.ends host.sessions in
+        told (hosted_steps hosting.logs hosting.prefix host.ids host.sessions text) host.stopped (OfHosted hosting.logs hosting.prefix (Ok host)) (hosted_gives hosting.logs hosting.prefix host.ids host.sessions text)
+        (λ v fine comes. hosted_alike hosting.logs hosting.prefix host.ids host.sessions text host.stopped v fine comes) serves.0.faults serves.1 ran last
+    hosted hosting connections (Err serve_fault.ListenFault) serves ran last = absurd (net_is_fine last serves.0.faults)
+    hosted hosting connections (Err serve_fault.WantOfMemory) serves ran last =
         done_giving [] (OfHosted hosting.logs hosting.prefix (Err serve_fault.WantOfMemory)) served new result ran tt (inl ran.course.comes) (none_behind serves.0.faults serves.1)
+
+    posted
+        : (hosting : PlainHosting) (posts : HostedOn) → served ≡ record ready { net = served.net } → (ran : RanBySteps (outside_tells files out net links) (OfHostedOn hosting.logs hosting.prefix (Ok posts)) served new result) → CountsStay files out net served new
+        → CountsStop (net.faults ready.net) (net.faults served.net) (posts_fault posts.posts) ⊎ Rose (net.faults ready.net) (net.faults served.net) → IsDone result
+    posted hosting posts is ran last (inl counts) =
+        let text = posts_text (length hosting.logs) posts.ids posts.posts posts.sessions in
+        told (hosted_steps hosting.logs hosting.prefix posts.ids posts.sessions text) (posts_fault posts.posts) (OfHostedOn hosting.logs hosting.prefix (Ok posts)) (hosted_gives hosting.logs hosting.prefix posts.ids posts.sessions text)
+        (λ v fine comes. hosted_alike hosting.logs hosting.prefix posts.ids posts.sessions text (posts_fault posts.posts) v fine comes) counts is ran last
+    posted hosting posts is ran last (inr rose) = absurd (net_is_fine last rose)
+
+    wanting
+        : (hosting : PlainHosting) → served ≡ record ready { net = served.net } → (ran : RanBySteps (outside_tells files out net links) (OfHostedOn hosting.logs hosting.prefix (Err serve_fault.WantOfMemory)) served new result) → CountsStay files out net served new
+        → (net.faults ready.net ≤ net.faults served.net) ⊎ Rose (net.faults ready.net) (net.faults served.net) → IsDone result
+    wanting hosting is ran last (inl later) = done_giving [] (OfHostedOn hosting.logs hosting.prefix (Err serve_fault.WantOfMemory)) served new result ran tt (inl ran.course.comes) (none_behind later is)
+    wanting hosting is ran last (inr rose) = absurd (net_is_fine last rose)
+
+    serviced
+        : {P : Type 0} (parts : SharesTell N P L) (hosting : PlainHosting) (may : Type 0) (count : ℕ) (answer : Result HostedOn ServeFault) → ServesPosts gives may (outside_tells files out net links) parts hosting count answer ready served
+        → (ran : RanBySteps (outside_tells files out net links) (OfHostedOn hosting.logs hosting.prefix answer) served new result) → CountsStay files out net served new → IsDone result
+    serviced parts hosting may count (Ok hosted) serves ran last =
+        posted hosting hosted serves.1 ran last (counts_posts net links ready.net served.net serves.0.posts serves.0.net may hosted.posts serves.0.outcomes)
+    serviced parts hosting may count (Err serve_fault.ListenFault) serves ran last = absurd (net_is_fine last serves.0.faults)
+    serviced parts hosting may count (Err serve_fault.WantOfMemory) serves ran last =
+        wanting hosting serves.1 ran last (sunk_or_rose net links ready.net served.net (replicate serves.0.idle.shares idle_post) serves.0.idle.net)
 
   as_reflector
       : (gives : ℕ → Type 0) (coming : Coming) (old new : Outside F W N L) (result : Status) → RanAsReflector gives (outside_tells files out net links) coming old new result → NoneFailed files out net old new → IsDone result
@@ -306,7 +333,14 @@ module _ {F W N L : Type 0} (files : FilesTell F) (out : OutputTells W) (net : N
       : (gives : ℕ → Type 0) (coming : Coming) (old new : Outside F W N L) (result : Status) → RanAsHost gives (outside_tells files out net links) coming old new result → NoneFailed files out net old new → IsDone result
   as_host gives coming old new result ran none =
       hosted gives old ran.ready ran.served new result (steps_keep files out net links ran.reaches.steps None old ran.ready ran.reaches.acts) none
-      ran.hosting ran.answer ran.serves ran.behind
+      ran.hosting ran.connections ran.answer ran.serves ran.behind
+      (run_keeps files out net links ran.behind.steps ran.behind.ending ran.served new result ran.behind.does)
+
+  as_service
+      : {P : Type 0} (parts : SharesTell N P L) (gives : ℕ → Type 0) (may : Option (List ℕ) → Type 0) (coming : Coming) (old new : Outside F W N L) (result : Status) → RanAsService gives may (outside_tells files out net links) parts coming old new result → NoneFailed files out net old new → IsDone result
+  as_service parts gives may coming old new result ran none =
+      serviced gives old ran.ready ran.served new result (steps_keep files out net links ran.reaches.steps None old ran.ready ran.reaches.acts) none
+      parts ran.hosting (may ran.until) ran.links ran.answer ran.serves ran.behind
       (run_keeps files out net links ran.behind.steps ran.behind.ending ran.served new result ran.behind.does)
 
   -- ---- as a drill
@@ -336,12 +370,13 @@ module _ {F W N L : Type 0} (files : FilesTell F) (out : OutputTells W) (net : N
   due_by command result done = done
 
   comes_due
-      : IsFunction → (gives : ℕ → Type 0) (command : Option Command) (old new : Outside F W N L) (result : Status) → RanAlone gives (outside_tells files out net links) (Comes command) old new result
+      : {P : Type 0} (parts : SharesTell N P L) → IsFunction → (gives : ℕ → Type 0) (may : Option (List ℕ) → Type 0) (command : Option Command) (old new : Outside F W N L) (result : Status) → RanAlone gives may (outside_tells files out net links) parts (Comes command) old new result
       → HasRightInput files old.files command → NoneFailed files out net old new → NoLinkFailed net command old.net new.net → IsDueOf command result
-  comes_due function gives command old new result (inl ran) right none fine = by_steps function command old new result ran right none fine
-  comes_due function gives command old new result (inr (inl ran)) right none fine = due_by command result (as_reflector gives (Comes command) old new result ran none)
-  comes_due function gives command old new result (inr (inr (inl ran))) right none fine = due_by command result (as_host gives (Comes command) old new result ran none)
-  comes_due function gives command old new result (inr (inr (inr ran))) right none fine = due_by command result (as_drill gives (Comes command) old new result ran none)
+  comes_due parts function gives may command old new result (inl ran) right none fine = by_steps function command old new result ran right none fine
+  comes_due parts function gives may command old new result (inr (inl ran)) right none fine = due_by command result (as_reflector gives (Comes command) old new result ran none)
+  comes_due parts function gives may command old new result (inr (inr (inl ran))) right none fine = due_by command result (as_host gives (Comes command) old new result ran none)
+  comes_due parts function gives may command old new result (inr (inr (inr (inl ran)))) right none fine = due_by command result (as_service parts gives may (Comes command) old new result ran none)
+  comes_due parts function gives may command old new result (inr (inr (inr (inr ran)))) right none fine = due_by command result (as_drill gives (Comes command) old new result ran none)
 
   -- where its inputs are right, the command names no journal
   names_none : (command : Option Command) (old : F) → HasRightInput files old command → NamesNoJournal command
@@ -376,17 +411,17 @@ module _ {F W N L : Type 0} (files : FilesTell F) (out : OutputTells W) (net : N
   lives_none (Some (Drill request)) old right = tt
 
   due_of_all
-      : {T S K : Type 0} (stores : StoresTell T S) (feed : FeedTells K) → IsFunction → (gives : ℕ → Type 0) (command : Option Command) (old new : Outside F W N L) (s t : T) (k k' : K) (result : Status)
-      → Ran gives (outside_tells files out net links) stores feed (Comes command) old new s t k k' result
+      : {P T S K : Type 0} (parts : SharesTell N P L) (stores : StoresTell T S) (feed : FeedTells K) → IsFunction → (gives : ℕ → Type 0) (may : Option (List ℕ) → Type 0) (command : Option Command) (old new : Outside F W N L) (s t : T) (k k' : K) (result : Status)
+      → Ran gives may (outside_tells files out net links) parts stores feed (Comes command) old new s t k k' result
       → HasRightInput files old.files command → NoneFailed files out net old new → NoLinkFailed net command old.net new.net → IsDueOf command result
-  due_of_all stores feed function gives command old new s t k k' result (inl ran) right none fine = comes_due function gives command old new result ran.0 right none fine
-  due_of_all stores feed function gives command old new s t k k' result (inr (inl ran)) right none fine =
+  due_of_all parts stores feed function gives may command old new s t k k' result (inl ran) right none fine = comes_due parts function gives may command old new result ran.0 right none fine
+  due_of_all parts stores feed function gives may command old new s t k k' result (inr (inl ran)) right none fine =
       absurd (never_keeps command (names_none command old.files right) _ ran.0.reaches.comes tt)
-  due_of_all stores feed function gives command old new s t k k' result (inr (inr ran)) right none fine =
+  due_of_all parts stores feed function gives may command old new s t k k' result (inr (inr ran)) right none fine =
       absurd (never_lives command (lives_none command old.files right) _ ran.0.reaches.comes tt)
 
   pub is_complete
-      : {T S K : Type 0} (stores : StoresTell T S) (feed : FeedTells K) → IsFunction → AnsweredVisitsHaveNoFault → VisitsEndWithLinks → VisitsEndByRefusals → (gives : ℕ → Type 0) (command : Option Command) (old new : Outside F W N L) (s t : T) (k k' : K) (result : Status)
-      → Ran gives (outside_tells files out net links) stores feed (Comes command) old new s t k k' result → IsComplete files out net links command old new result
-  is_complete stores feed function peer ended refused gives command old new s t k k' result ran =
-      record { due = due_of_all stores feed function gives command old new s t k k' result ran; caused = is_caused peer ended refused files out net links (Comes command) old new result }
+      : {P T S K : Type 0} (parts : SharesTell N P L) (stores : StoresTell T S) (feed : FeedTells K) → IsFunction → AnsweredVisitsHaveNoFault → VisitsEndWithLinks → VisitsEndByRefusals → (gives : ℕ → Type 0) (may : Option (List ℕ) → Type 0) (command : Option Command) (old new : Outside F W N L) (s t : T) (k k' : K) (result : Status)
+      → Ran gives may (outside_tells files out net links) parts stores feed (Comes command) old new s t k k' result → IsComplete files out net links command old new result
+  is_complete parts stores feed function peer ended refused gives may command old new s t k k' result ran =
+      record { due = due_of_all parts stores feed function gives may command old new s t k k' result ran; caused = is_caused peer ended refused files out net links (Comes command) old new result }

@@ -1,9 +1,7 @@
 -- The run of a host, and what is told after it.
-use Rattle.std.proofs.Common.{◌≡◌, inl, inr, ℕ, ◌+◌, ◌-◌, ◌≤◌, Bool, true, false, List, [], ◌∷◌, ◌++◌, length, drop, Option, None, Result, Ok, Err, IfOk, refl, sym, ap, ◌∙◌, subst, append_assoc, arith}
-use Rattle.std.proofs.lemmas.List.{append-nil, length-drop, length-map}
+use Rattle.std.proofs.Common.{◌≡◌, inl, inr, ℕ, ◌+◌, ◌-◌, ◌≤◌, Bool, true, false, List, [], ◌∷◌, ◌++◌, length, drop, None, Result, Ok, Err, IfOk, refl, sym, ap, ◌∙◌, subst, append_assoc, arith}
+use Rattle.std.proofs.lemmas.List.{append-nil, length-drop}
 use Rattle.tea_base.specs.declared.entry.SessionId.{SessionId}
-use Rattle.tea_io.specs.declared.net.NetFault.{NetFault}
-use Rattle.reflector_core.specs.SessionState.{SessionState}
 use Rattle.id_claims.specs.Ids.{most_ids}
 use Rattle.tea_io.specs.declared.net.NetCall.{NetCall}
 use Rattle.tea_io.specs.declared.net.NetCall.TheVariants.{Listen}
@@ -14,16 +12,15 @@ use Rattle.run_steps.proofs.Joined.{acts_behind}
 use Rattle.reflect_server.specs.declared.reflection.ServeFault.{ServeFault}
 use Rattle.reflect_server.specs.declared.reflection.ServeFault.TheVariants.{ListenFault, WantOfMemory}
 use Rattle.host_server.specs.Hosts.{Hosts}
-use Rattle.host_server.specs.declared.hosting.HostEnd.{HostEnd}
 use Rattle.host_server.specs.declared.hosting.Hosted.{Hosted}
-use Rattle.command_reflect.specs.declared.reflection.LogPlace.{LogPlace}
-use Rattle.command_host.specs.Hosting.{log_names, rooms_for, session_puts}
-use Rattle.commands.specs.Verdict.{ByHosting, ByNetFault, ByWant, Coming, Free, OfHostEnds, OfHostReady, Only, PlainHosting, ThenAll, at_once, behind, hosted_verdict, look_steps, made_puts, put_steps}
+use Rattle.command_words.specs.declared.words.HostSpan.TheVariants as host_span
+use Rattle.command_host.specs.Hosting.{rooms_for}
+use Rattle.commands.specs.Verdict.{ByHosting, ByNetFault, ByWant, Coming, Free, OfHostReady, PlainHosting, ThenAll, at_once, behind, look_steps}
 use Rattle.croquet.specs.declared.status.Status.{Status}
 use Rattle.croquet.specs.Calls.{fault_ending}
 use Rattle.croquet.specs.Run.{Ending, on_net_fault, OutOfMemory, OfHosted, RanAsHost, Reaches, TellsEnding}
 use Rattle.croquet.proofs.Acts.{ActsSo, DoesAll}
-use Rattle.croquet.proofs.Runs.{RanSo, ran_closed, ran_leading}
+use Rattle.croquet.proofs.Runs.{RanSo, ran_closed}
 use Rattle.croquet.proofs.VisitRuns.{ran_beside}
 
 -- ---- steps that come first
@@ -80,45 +77,6 @@ looked_at_all files out hosting f f' w w' acts = record {
 
 -- ---- after the host
 
--- what is put behind the listed sessions, so many, and then printed
-abbrev OfMade : ℕ → List ℕ → List SessionId → List HostEnd → List SessionState → Option NetFault → Coming
-OfMade listed prefix ids ends sessions stopped =
-    Free (ThenAll (put_steps (made_puts listed prefix ids sessions)) (Free (Only (hosted_verdict listed ids ends sessions stopped))))
-
-module _ {F W : Type 0} (files : FilesTell F) (out : OutputTells W) (prefix : List ℕ) (ids : List SessionId) (ends : List HostEnd) (sessions : List SessionState) (stopped : Option NetFault) (f f' : F) (w w' : W) (result : Status) where
-  -- those that were made on demand were put, and the run goes on after them
-  pub ran_made
-      : (listed : ℕ) (mid : F) (next : W) → ActsSo files out (put_steps (made_puts listed prefix ids sessions)) None f w mid next → RanSo files out (Free (Only (hosted_verdict listed ids ends sessions stopped))) mid next f' w' result
-      → RanSo files out (OfMade listed prefix ids ends sessions stopped) f w f' w' result
-  ran_made listed mid next acts ran =
-      let steps = put_steps (made_puts listed prefix ids sessions) in
-      let last : Coming = Free (Only (hosted_verdict listed ids ends sessions stopped)) in
-      ran_leading files out (ThenAll steps last) (OfMade listed prefix ids ends sessions stopped) f f' w w' result (λ verdict comes. inr comes) (ran_behind files out steps last f f' w w' result mid next acts ran)
-
-  -- the run was cut at one of them
-  pub ran_unmade
-      : (listed : ℕ) → ((ending : Ending) → DoesAll files out (put_steps (made_puts listed prefix ids sessions)) ending f w f' w' result) → RanSo files out (OfMade listed prefix ids ends sessions stopped) f w f' w' result
-  ran_unmade listed does =
-      let steps = put_steps (made_puts listed prefix ids sessions) in
-      let last : Coming = Only (hosted_verdict listed ids ends sessions stopped) in
-      ran_leading files out (ThenAll steps (Free last)) (OfMade listed prefix ids ends sessions stopped) f f' w w' result (λ verdict comes. inr comes) (ran_short files out steps last f f' w w' result does)
-
-  -- the listed sessions were put, and the run goes on after them
-  pub ran_listed
-      : (places : List LogPlace) (listed : ℕ) → listed ≡ length places → (mid : F) (next : W) → ActsSo files out (put_steps (session_puts (log_names places) sessions)) None f w mid next
-      → RanSo files out (OfMade listed prefix ids ends sessions stopped) mid next f' w' result → RanSo files out (OfHostEnds (log_names places) prefix ids ends sessions stopped) f w f' w' result
-  ran_listed places listed same mid next acts ran =
-      ran_behind files out (put_steps (session_puts (log_names places) sessions)) (OfMade (length (log_names places)) prefix ids ends sessions stopped) f f' w w' result mid next acts
-      (subst (λ (count : ℕ). RanSo files out (OfMade count prefix ids ends sessions stopped) mid next f' w' result) (same ∙ sym (length-map places (λ (place : LogPlace). place.name))) ran)
-
-  -- the run was cut at one of them
-  pub ran_unlisted
-      : (places : List LogPlace) → ((ending : Ending) → DoesAll files out (put_steps (session_puts (log_names places) sessions)) ending f w f' w' result)
-      → RanSo files out (OfHostEnds (log_names places) prefix ids ends sessions stopped) f w f' w' result
-  ran_unlisted places does =
-      let listed = length (log_names places) in
-      ran_short files out (put_steps (session_puts (log_names places) sessions)) (ThenAll (put_steps (made_puts listed prefix ids sessions)) (Free (Only (hosted_verdict listed ids ends sessions stopped)))) f f' w w' result does
-
 -- the fault of one that has no session to tell of was told
 pub ran_unhosted
     : {F W : Type 0} (files : FilesTell F) (out : OutputTells W) (logs : List (List ℕ)) (prefix : List ℕ) (fault : ServeFault) (f : F) (w w' : W) (result : Status)
@@ -128,7 +86,8 @@ ran_unhosted files out logs prefix WantOfMemory f w w' result told = ran_closed 
 
 -- ---- memory for its files
 
-enough
+-- the ids of listed sessions and of those that were made on demand have places and rooms
+pub enough
     : (on_demand : Bool) (listed others ids : List SessionId) (logs rooms : ℕ) → listed ++ others ≡ ids → (on_demand ≡ false → others ≡ []) → length ids ≤ most_ids
     → logs ≡ length listed → rooms ≡ rooms_for on_demand (length listed) → length ids ≤ logs + rooms
 enough true listed others ids logs rooms are none few as_many taken =
@@ -157,14 +116,17 @@ rooms_are_enough gives listed on_demand net links calls count n n' (Err fault) l
 
 -- a command that goes on as a host's run
 pub ran_hosting
-    : {F W N L : Type 0} (gives : ℕ → Type 0) (files : FilesTell F) (out : OutputTells W) (net : NetTells N L) (links : LinksTell L) (coming : Coming) (hosting : PlainHosting) (answer : Result Hosted ServeFault)
+    : {F W N L : Type 0} (gives : ℕ → Type 0) (files : FilesTell F) (out : OutputTells W) (net : NetTells N L) (links : LinksTell L) (coming : Coming) (hosting : PlainHosting) (connections : ℕ) (answer : Result Hosted ServeFault)
     (f mid f' : F) (w next w' : W) (n n' : N) (result : Status)
+    → hosting.span ≡ host_span.Connections connections
     → Reaches (files_side_tells files out) coming (ByHosting hosting) (files_side f w) (files_side mid next)
-    → Hosts gives hosting.ids hosting.on_demand net links (Listen hosting.address ∷ []) hosting.connections n n' answer
+    → Hosts gives hosting.ids hosting.on_demand net links (Listen hosting.address ∷ []) connections n n' answer
     → RanSo files out (OfHosted hosting.logs hosting.prefix answer) mid next f' w' result
     → RanAsHost gives (outside_tells files out net links) coming (outside f w n None) (outside f' w' n' None) result
-ran_hosting gives files out net links coming hosting answer f mid f' w next w' n n' result reached hosts ran = record {
+ran_hosting gives files out net links coming hosting connections answer f mid f' w next w' n n' result spans reached hosts ran = record {
   hosting = hosting;
+  connections = connections;
+  spans = spans;
   ready = outside mid next n None;
   reaches = record {
     steps = reached.steps;

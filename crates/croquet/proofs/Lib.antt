@@ -5,6 +5,8 @@ pub mod VisitRuns
 pub mod LiveRuns
 pub mod ReflectorRuns
 pub mod HostRuns
+pub mod PostRuns
+pub mod PostCounts
 pub mod DrillRuns
 pub mod Counts
 pub mod LinkCounts

@@ -1,8 +1,7 @@
 -- The run of a live view, and a command that goes on as one.
-use Rattle.std.proofs.Common.{◌≡◌, inl, inr, ℕ, List, [], Option, Some, None, refl}
+use Rattle.std.proofs.Common.{inl, inr, ℕ, List, [], Option, Some, None, refl}
 use Rattle.run_steps.specs.Outside.{Came, Well, Failed, WantedMemory, FilesTell, OutputTells, NetTells, LinksTell, files_side, files_side_tells, outside, outside_tells}
 use Rattle.run_steps.proofs.Beside.{all_beside_net}
-use Rattle.view_shell.specs.declared.ending.ViewEnd.{ViewEnd}
 use Rattle.view_shell.specs.declared.ending.ViewEnd.TheVariants as view_end
 use Rattle.view_shell.specs.Phases.{Phase}
 use Rattle.live_view.specs.declared.input.LiveInput.{LiveInput}

@@ -11,10 +11,10 @@ use Rattle.reflect_server.specs.declared.reflection.ServeFault.TheVariants.{List
 use Rattle.reflect_server.specs.declared.reflection.KeptFault.{KeptFault}
 use Rattle.reflect_server.specs.declared.reflection.KeptFault.TheVariants as kept_fault
 use Rattle.run_steps.specs.Steps.{Step, Looks, Prints, Puts}
-use Rattle.run_steps.specs.Outside.{Acts, Came, Failed, WantedMemory, Well, FilesTell, LooksAt, OutputTells, PutsFile, NetTells, LinksTell, files_side, files_side_tells, outside, outside_tells}
+use Rattle.run_steps.specs.Outside.{Acts, Came, Failed, WantedMemory, Well, FilesTell, OutputTells, PutsFile, NetTells, LinksTell, files_side, files_side_tells, outside, outside_tells}
 use Rattle.run_steps.proofs.Beside.{all_beside_net}
 use Rattle.command_outcome.specs.declared.outcome.Put.{Put}
-use Rattle.commands.specs.Verdict.{Closing, OfLooked, OfReady, ByNetFault, ByReflecting, ByWant, ByWriteFault, Coming, Free, Only, PlainReflection, Then, Verdict, at_once, before, reflected_closing}
+use Rattle.commands.specs.Verdict.{Closing, OfLooked, ByNetFault, ByReflecting, ByWant, ByWriteFault, Coming, Free, Only, PlainReflection, Then, Verdict, at_once, before, reflected_closing}
 use Rattle.croquet.specs.declared.status.Status.{Status}
 use Rattle.croquet.specs.Calls.{LooksOrEnds, TellsNoPlace, TellsUnput, fault_ending, kept_fault_ending, reflected_ending}
 use Rattle.croquet.specs.Run.{Concludes, Ending, on_net_fault, on_write_fault, OutOfMemory, OfKept, OfReflected, RanAsReflector, Reaches, TellsCut, TellsEnding}

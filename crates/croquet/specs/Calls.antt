@@ -1,5 +1,5 @@
 -- What the parts of a run do, and what they tell.
-use Rattle.std.specs.Prelude.{◌≡◌, ◌⊎◌, ℕ, ⊤, Bool, true, false, List, Option, Some, None, Result, Ok, Err, codes, map}
+use Rattle.std.specs.Prelude.{◌≡◌, ◌⊎◌, ℕ, ⊤, Bool, true, false, List, ◌++◌, length, Option, Some, None, Result, Ok, Err, codes, map}
 use Rattle.tea_io.specs.declared.net.NetFault.{NetFault}
 use Rattle.tea_io.specs.declared.net.NetFault.TheVariants as net_fault
 use Rattle.run_steps.specs.Steps.{Step}
@@ -30,7 +30,10 @@ use Rattle.command_outcome.specs.declared.outcome.Input.TheVariants as input
 use Rattle.command_outcome.specs.declared.outcome.CommandRefusal.TheVariants as refusal
 use Rattle.command_words.specs.declared.words.DrillRequest.{DrillRequest}
 use Rattle.command_words.specs.Bounds.{AreConnections, IsBoundedDrill}
-use Rattle.commands.specs.Verdict.{ByDrill, ByHosting, ByKeeping, ByLive, ByReflecting, ByVisit, ByWant, Coming, Free, Only, PlainLive, PlainVisit, at_once, drilled_verdict}
+use Rattle.tea_base.specs.declared.entry.SessionId.{SessionId}
+use Rattle.reflector_core.specs.SessionState.{SessionState}
+use Rattle.command_host.specs.Hosting.{session_puts}
+use Rattle.commands.specs.Verdict.{ByDrill, ByHosting, ByKeeping, ByLive, ByReflecting, ByVisit, ByWant, Coming, Free, OfHostPuts, Only, PlainLive, PlainVisit, ThenAll, Verdict, at_once, drilled_verdict, made_puts, put_steps}
 use Rattle.commands.specs.Work.{IsBoundedHosting, IsBoundedKeeping, plain_hosting, plain_keeping, plain_live, plain_reflection, visit_of}
 use Rattle.croquet.specs.declared.status.Status.{Status}
 use Rattle.croquet.specs.declared.status.Status.TheVariants as status
@@ -74,6 +77,23 @@ abbrev pub Completes : {F W N L : Type 0} → OutsideTells F W N L → List Step
     → Outside F W N L → Type 0
 Completes tells steps (Ok done) old new = Acts tells steps None old new
 Completes tells steps (Err result) old new = (ending : Ending) → Does tells steps ending old new result
+
+-- Steps are all done; or the run ends before they are, for want of memory or by the one at which they were cut, whatever verdict was to come behind
+-- them.
+abbrev pub CompletesFreely : {F W N L : Type 0} → OutsideTells F W N L → List Step → Result ⊤ Status → Outside F W N L
+    → Outside F W N L → Type 0
+CompletesFreely tells steps (Ok done) old new = Acts tells steps None old new
+CompletesFreely tells steps (Err result) old new =
+    (verdict : Verdict) → RanBySteps tells (Free (ThenAll steps (Free (Only verdict)))) old new result
+
+-- The sessions of a host are all put; or the run ends before that, whatever verdict was to come behind the puts.
+abbrev pub CompletesPuts : {F W N L : Type 0} → OutsideTells F W N L → List (List ℕ) → List ℕ → List SessionId
+    → List SessionState → Result ⊤ Status → Outside F W N L → Outside F W N L → Type 0
+CompletesPuts tells logs prefix ids sessions (Ok done) old new =
+    Acts tells (put_steps (session_puts logs sessions) ++ put_steps (made_puts (length logs) prefix ids sessions)) None
+    old new
+CompletesPuts tells logs prefix ids sessions (Err result) old new =
+    (verdict : Verdict) → RanBySteps tells (OfHostPuts logs prefix ids sessions verdict) old new result
 
 -- nothing more is told, and the status is 0
 abbrev pub all_well : Ending
@@ -146,8 +166,8 @@ abbrev pub IsOver : Turn → Type 0
 IsOver (turn.Over status) = ⊤
 IsOver other = ⊥
 
--- a reflector or a host accepts from 1 to 64 links, what a journal is founded with is a stored session, a host has sessions and not too many, and a
--- drill is of the size that its words may ask for
+-- a reflector accepts from 1 to 64 links, and a host so many, or it has so many posts; what a journal is founded with is a stored session; a host has
+-- sessions and not too many; and a drill is of the size that its words may ask for
 abbrev pub IsBoundedTurn : Turn → Type 0
 IsBoundedTurn (turn.Reflects reflection) = AreConnections reflection.connections
 IsBoundedTurn (turn.Keeps keeping) = IsBoundedKeeping keeping

@@ -32,6 +32,9 @@ use Rattle.session_lock.specs.History.{play_from}
 use Rattle.reflect_server.specs.Opening.{gives_later}
 use Rattle.host_server.specs.Hosts.{Hosts}
 use Rattle.host_server.specs.declared.hosting.Hosted.{Hosted}
+use Rattle.host_posts.specs.Hosts.{HostsOn}
+use Rattle.host_posts.specs.Shares.{SharesTell}
+use Rattle.host_posts.specs.declared.posting.HostedOn.{HostedOn}
 use Rattle.reflect_server.specs.declared.reflection.Reflected.{Reflected}
 use Rattle.reflect_server.specs.declared.reflection.ServeFault.{ServeFault}
 use Rattle.reflect_server.specs.declared.reflection.ServeFault.TheVariants as serve_fault
@@ -51,8 +54,9 @@ use Rattle.command_outcome.specs.declared.outcome.Input.TheVariants as input
 use Rattle.command_outcome.specs.declared.outcome.CommandRefusal.{CommandRefusal}
 use Rattle.command_outcome.specs.declared.outcome.CommandRefusal.TheVariants as refusal
 use Rattle.command_words.specs.declared.words.DrillRequest.{DrillRequest}
+use Rattle.command_words.specs.declared.words.HostSpan.TheVariants as host_span
 use Rattle.commands.specs.Keeping.{OfAbsent, OfBytes, no_journal}
-use Rattle.commands.specs.Verdict.{Closing, Fine, ByRefusal, ByWant, ByReadFault, ByWriteFault, ByNetFault, ByVisit, ByLive, ByReflecting, ByKeeping, ByGoingOn, ByHosting, ByDrill, Verdict, PlainHosting, PlainKeeping, PlainLive, PlainReflection, PlainVisit, Coming, OfEnds, OfHostEnds, Only, at_once}
+use Rattle.commands.specs.Verdict.{Closing, Fine, ByRefusal, ByWant, ByReadFault, ByWriteFault, ByNetFault, ByVisit, ByLive, ByReflecting, ByKeeping, ByGoingOn, ByHosting, ByDrill, Verdict, PlainHosting, PlainKeeping, PlainLive, PlainReflection, PlainVisit, Coming, OfEnds, OfHostEnds, OfPostEnds, Only, at_once}
 use Rattle.croquet.specs.Drills.{OfDrilled, drill_size}
 use Rattle.croquet.specs.declared.status.Status.{Status}
 use Rattle.croquet.specs.declared.status.Status.TheVariants as status
@@ -153,7 +157,7 @@ Concludes (ByReflecting reflection) steps ending = ⊥
 -- Nor so: what comes next depends on what the stores tell. `RanAsKeeper` says how.
 Concludes (ByKeeping keeping) steps ending = ⊥
 Concludes (ByGoingOn keeping place) steps ending = ⊥
--- Nor so: a host serves many links at once. `RanAsHost` says how it does.
+-- Nor so: a host serves many links at once. `RanAsHost` says how it does, and `RanAsService` how its posts do.
 Concludes (ByHosting hosting) steps ending = ⊥
 -- Nor so: the views of a drill run in threads. `RanAsDrill` says what comes of them.
 Concludes (ByDrill request) steps ending = ⊥
@@ -265,14 +269,15 @@ pub record RanAsReflector (gives : ℕ → Type 0) {F W N L : Type 0} (tells : O
 
 -- ---- a host's run
 
--- a host of these sessions, and of those that it made on demand, has done this to the net, by a clock that may give these values, and answers so; nothing else moves
+-- a host of these sessions, and of those that it made on demand, has done this to the net, which was to give so many links, by a clock that may give
+-- these values, and answers so; nothing else moves
 abbrev pub ServesHost
-    : (ℕ → Type 0) → {F W N L : Type 0} → OutsideTells F W N L → PlainHosting → Result Hosted ServeFault
+    : (ℕ → Type 0) → {F W N L : Type 0} → OutsideTells F W N L → PlainHosting → ℕ → Result Hosted ServeFault
     → Outside F W N L → Outside F W N L → Type 0
-ServesHost gives tells hosting answer old new =
+ServesHost gives tells hosting connections answer old new =
     OnPart tells.net (λ net. OnPart tells.links (λ links.
-    Hosts gives hosting.ids hosting.on_demand net links (Listen hosting.address ∷ []) hosting.connections old.net
-    new.net answer))
+    Hosts gives hosting.ids hosting.on_demand net links (Listen hosting.address ∷ []) connections old.net new.net
+    answer))
     × (new ≡ record old { net = new.net })
 
 -- what comes of a host's answer: each session is put as it is stored, those that were made on demand under this prefix, and then their text is
@@ -286,12 +291,49 @@ OfHosted logs prefix (Err serve_fault.WantOfMemory) = Only (at_once ByWant)
 pub record RanAsHost (gives : ℕ → Type 0) {F W N L : Type 0} (tells : OutsideTells F W N L) (coming : Coming)
     (old new : Outside F W N L) (result : Status) : Type 0 where
   pub hosting : PlainHosting
+  pub connections : ℕ
+  pub spans : hosting.span ≡ host_span.Connections connections
   pub ready : Outside F W N L
   pub reaches : Reaches tells coming (ByHosting hosting) old ready
   pub answer : Result Hosted ServeFault
   pub served : Outside F W N L
-  pub serves : ServesHost gives tells hosting answer ready served
+  pub serves : ServesHost gives tells hosting connections answer ready served
   pub behind : RanBySteps tells (OfHosted hosting.logs hosting.prefix answer) served new result
+
+-- ---- a service
+
+-- So many posts have hosted these sessions, and those that they made on demand, over shares of the net, by a clock that may give these values, and
+-- answer so; nothing else moves. A post has stopped only where it may have been asked to.
+abbrev pub ServesPosts
+    : (ℕ → Type 0) → Type 0 → {F W N L P : Type 0} → OutsideTells F W N L → SharesTell N P L → PlainHosting → ℕ
+    → Result HostedOn ServeFault → Outside F W N L → Outside F W N L → Type 0
+ServesPosts gives may tells parts hosting links answer old new =
+    OnPart tells.net (λ net. OnPart tells.links (λ of_links.
+    HostsOn gives may hosting.ids hosting.on_demand net parts of_links (Listen hosting.address ∷ []) links old.net
+    new.net answer))
+    × (new ≡ record old { net = new.net })
+
+-- what comes of the answer of posts: each session is put as it is stored, and then their text is printed, also where a post has failed
+abbrev pub OfHostedOn : List (List ℕ) → List ℕ → Result HostedOn ServeFault → Coming
+OfHostedOn logs prefix (Ok hosted) = OfPostEnds logs prefix hosted.ids hosted.posts hosted.sessions
+OfHostedOn logs prefix (Err serve_fault.ListenFault) = Only (at_once ByNetFault)
+OfHostedOn logs prefix (Err serve_fault.WantOfMemory) = Only (at_once ByWant)
+
+-- a command has done its steps, posts have hosted its sessions, each of which stopped only where the file that its words name may have been there, and
+-- what comes of their answer is done
+pub record RanAsService (gives : ℕ → Type 0) (may : Option (List ℕ) → Type 0) {F W N L P : Type 0}
+    (tells : OutsideTells F W N L) (parts : SharesTell N P L) (coming : Coming) (old new : Outside F W N L)
+    (result : Status) : Type 0 where
+  pub hosting : PlainHosting
+  pub links : ℕ
+  pub until : Option (List ℕ)
+  pub spans : hosting.span ≡ host_span.Posts links until
+  pub ready : Outside F W N L
+  pub reaches : Reaches tells coming (ByHosting hosting) old ready
+  pub answer : Result HostedOn ServeFault
+  pub served : Outside F W N L
+  pub serves : ServesPosts gives (may until) tells parts hosting links answer ready served
+  pub behind : RanBySteps tells (OfHostedOn hosting.logs hosting.prefix answer) served new result
 
 -- ---- a reflector that keeps a journal
 
@@ -480,19 +522,21 @@ pub record RanAsLive {K F W N L : Type 0} (tells : OutsideTells F W N L) (feed :
 
 -- ---- every run
 
--- a command has run without stores and without lines that come to it: by steps, as a reflector, as a host, or as a drill
-abbrev pub RanAlone : (ℕ → Type 0) → {F W N L : Type 0} → OutsideTells F W N L → Coming → Outside F W N L
-    → Outside F W N L → Status → Type 0
-RanAlone gives tells coming old new result =
+-- a command has run without stores and without lines that come to it: by steps, as a reflector, as a host, as a service, or as a drill
+abbrev pub RanAlone : (ℕ → Type 0) → (Option (List ℕ) → Type 0) → {F W N L P : Type 0} → OutsideTells F W N L
+    → SharesTell N P L → Coming → Outside F W N L → Outside F W N L → Status → Type 0
+RanAlone gives may tells parts coming old new result =
     RanBySteps tells coming old new result
     ⊎ (RanAsReflector gives tells coming old new result
-    ⊎ (RanAsHost gives tells coming old new result ⊎ RanAsDrill gives tells coming old new result))
+    ⊎ (RanAsHost gives tells coming old new result
+    ⊎ (RanAsService gives may tells parts coming old new result ⊎ RanAsDrill gives tells coming old new result)))
 
--- a command has run: so, and the stores and the feed of lines are as they were; or as a reflector that keeps a journal; or as a live view
+-- A command has run: so, and the stores and the feed of lines are as they were; or as a reflector that keeps a journal; or as a live view. The file that
+-- a service names may have been there where `may` says so.
 abbrev pub Ran
-    : (ℕ → Type 0) → {F W N L T S K : Type 0} → OutsideTells F W N L → StoresTell T S → FeedTells K → Coming
-    → Outside F W N L → Outside F W N L → T → T → K → K → Status → Type 0
-Ran gives tells stores feed coming old new s t k k' result =
-    (RanAlone gives tells coming old new result × (t ≡ s) × (k' ≡ k))
+    : (ℕ → Type 0) → (Option (List ℕ) → Type 0) → {F W N L P T S K : Type 0} → OutsideTells F W N L → SharesTell N P L
+    → StoresTell T S → FeedTells K → Coming → Outside F W N L → Outside F W N L → T → T → K → K → Status → Type 0
+Ran gives may tells parts stores feed coming old new s t k k' result =
+    (RanAlone gives may tells parts coming old new result × (t ≡ s) × (k' ≡ k))
     ⊎ ((RanAsKeeper gives tells stores coming old new s t result × (k' ≡ k))
     ⊎ (RanAsLive tells feed coming old new k k' result × (t ≡ s)))

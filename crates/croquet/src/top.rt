@@ -21,12 +21,14 @@ ghost use Rattle.croquet.specs.Complete.{IsComplete};
 ghost use Rattle.croquet.specs.LiveEnds.{LiveEndsAreCaused};
 ghost use Rattle.croquet.specs.Run.{Ran, StoresKeepPlays};
 ghost use Rattle.journal_store.specs.Stores.{stores_tell};
+ghost use Rattle.net_shares.specs.Stops.{MayBeAny};
+ghost use Rattle.host_posts.specs.Shares.{shares_tell};
 ghost use Rattle.live_shell.specs.LiveSteps.{feed_tells};
 ghost use Rattle.live_view.specs.Script.{LiveIsScript};
 
 use crate::drilling::tell_drilled;
 use crate::giving::finish;
-use crate::hosting::{HostPlaces, look_for_logs, tell_hosted};
+use crate::hosting::{HostPlaces, look_for_logs, tell_hosted, tell_posts};
 use crate::keeping::prepare;
 use crate::kept::{serve_kept, stores_keep_plays};
 use crate::living::{live_runs_are_caused, run_live_view};
@@ -37,15 +39,17 @@ use crate::visiting::run_visit;
 use command_host::Hosting;
 use command_hub::names_are_apart;
 use command_reflect::{Keeping, Reflection};
-use command_words::{DrillRequest, read_command};
+use command_words::{DrillRequest, HostSpan, read_command};
 use commands::{
     LiveStart, Next, VisitRequest, Waiting, logs_tell_their_events, one_verdict, snapshots_agree,
     some_verdict,
 };
 use drill::{Size, drill};
+use host_posts::{Posts, host_on};
 use host_server::{Host, host};
 use live_shell::Feed;
 use live_view::live_is_script;
+use net_shares::{FileStop, SharedNet, Signs};
 use reflect_server::{Server, reflect};
 use run_steps::{CallFault, read_file};
 use std::alloc::Global;
@@ -53,7 +57,7 @@ use std::sync::Wait;
 use std::thread::Threads;
 use store_io::{Store, Stores};
 use tea_base::{Blob, WantOfMemory, Words};
-use tea_io::{Clock, Files, Gate, Net, Sink};
+use tea_io::{Clock, Files, Gate, Sink};
 use view_follows::{
     ends_are_caused, journals_leave, runs_live_on, views_of_any_runs, views_of_many_runs,
     views_replay,
@@ -174,14 +178,17 @@ pub fn begin<F: Files, W: Sink>(alloc: Global, words: &Words, files: &mut F, out
 /// the net back. A live view does the lines of `feed`, which no other command asks. This is all that the program does once it has its words.
 ///
 /// All commands but `join`, `reflect`, `host` and `drill` wait for nobody, so they return. The run of `join` ends when its script or its feed does, or its
-/// net; that of `reflect` or `host` when it has accepted all its links, and all of them have ended; that of `drill` when its views have ended.
+/// net; that of `reflect` or `host` when it has accepted all its links, and all of them have ended; that of `drill` when its views have ended. A `host`
+/// whose links are not counted ends when each of its posts has: a post stops only where the file that the words name may be there, and ends else where its
+/// share of the net fails or finds no memory, or once it has served all the links that it may. The file is looked for among `signs`.
 pub fn croquet<
     R: Threads + Wait + Sync,
     F: Files,
     C: Clock + Sync,
-    N: Net + Send + Drop,
+    N: SharedNet + Send + Drop,
     W: Sink,
     G: Gate + Sync,
+    E: Signs + Sync,
     S: Stores<Store = J>,
     J: Store + Send + Drop,
     K: Feed,
@@ -195,6 +202,7 @@ pub fn croquet<
     clock: &C,
     mut net: N,
     gate: &G,
+    signs: &E,
     out: &mut W,
 ) -> (N, Status)
     // There are steps and an end that come of the words, and what was read, put, printed, heard and sent is what they give, up to
@@ -204,9 +212,9 @@ pub fn croquet<
     // A live view asks its feed and its links in some order; what it sends and prints is `live_step` over what they told, up to a cut, and then
     // the line of the fault, and each of its links goes back. No other command asks the feed. Of `host` each session, listed or made on demand, is the
     // play of one history of the links whose first frame goes to it, as if it were alone, and is put in a file of its own.
-    ensures ran { Ran (C.gives clock.now)
+    ensures ran { Ran (C.gives clock.now) (MayBeAny (E.may_be signs.now))
         (outside_tells (files_tell F.Files) (output_tells W.Sink) (net_tells N.Net) (links_tell N.Conn.Link))
-        (stores_tell S.Stores J.Store) (feed_tells K.Feed)
+        (shares_tell N.shared N.Part.Share) (stores_tell S.Stores J.Store) (feed_tells K.Feed)
         (Comes (command_of words.now)) (outside files.old out.old net None)
         (outside files.new out.new result.0 None) stores.old stores.new feed.old feed.new result.1 }
     // Where the files tell what they hold, the inputs of a command are right and no call has failed, it is done, unless memory runs out. Of
@@ -321,27 +329,46 @@ pub fn croquet<
                 ids,
                 on_demand,
                 address,
-                connections,
+                span,
                 logs,
                 prefix,
                 rooms,
             } = hosting;
-            let wanted = Host {
-                ids: ids.as_slice(),
-                on_demand,
-                address: &address,
-                connections,
-                clock,
-                gate,
-            };
-            let (net, answer) = host(rt, alloc, &wanted, net);
             let places = HostPlaces {
                 logs,
                 prefix,
                 rooms,
             };
-            let status = tell_hosted(alloc, places, answer, files, out);
-            (net, status)
+            match span {
+                HostSpan::Connections(connections) => {
+                    let wanted = Host {
+                        ids: ids.as_slice(),
+                        on_demand,
+                        address: &address,
+                        connections,
+                        clock,
+                        gate,
+                    };
+                    let (net, answer) = host(rt, alloc, &wanted, net);
+                    let status = tell_hosted(alloc, places, answer, files, out);
+                    (net, status)
+                }
+                HostSpan::Posts { links, until } => {
+                    let stop = FileStop::new(signs, clock, until);
+                    let wanted = Posts {
+                        ids: ids.as_slice(),
+                        on_demand,
+                        address: &address,
+                        posts: links,
+                        clock,
+                        gate,
+                        stop: &stop,
+                    };
+                    let (net, answer) = host_on(rt, alloc, &wanted, net);
+                    let status = tell_posts(alloc, places, answer, files, out);
+                    (net, status)
+                }
+            }
         }
         Turn::Drills(request) => {
             let size = Size {

@@ -4,9 +4,10 @@ ghost use Rattle.tea_io.specs.MemNet.{HasNoCounts};
 
 use crate::words::add_numbers;
 use case_lines::CaseFault;
+use net_shares::{MemSharedNet, SharePlans};
 use std::alloc::Global;
 use tea_base::{Blob, Numbers};
-use tea_io::{Blobs, MemLink, MemLinks, MemNet};
+use tea_io::{Blobs, MemLink, MemLinks};
 
 /// What the next word of a link is.
 #[derive(Clone, Copy)]
@@ -84,12 +85,16 @@ fn read_link(alloc: Global, part: &str) -> Result<MemLink, CaseFault>
     Ok(MemLink::new(alloc, frames, failing, quiet))
 }
 
-/// A net that gives the links of these parts, and of which one call fails.
-pub(crate) fn net_of(alloc: Global, parts: &[&str], failing: u32) -> Result<MemNet, CaseFault> {
+/// A net that gives the links of these parts, and no share, and of which one call fails.
+pub(crate) fn net_of(
+    alloc: Global,
+    parts: &[&str],
+    failing: u32,
+) -> Result<MemSharedNet, CaseFault> {
     let mut links = MemLinks::new(alloc);
     for part in parts {
         links.push(read_link(alloc, part)?)?;
     }
     let failing = Numbers::from_vec(vec![in alloc; failing]?);
-    Ok(MemNet::new(alloc, links, failing))
+    Ok(MemSharedNet::new(alloc, links, SharePlans::new(alloc), failing))
 }

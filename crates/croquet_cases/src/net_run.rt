@@ -5,11 +5,12 @@ use crate::net_case::{NetCase, NetCommand};
 use crate::stores::stores_of;
 use case_lines::{CaseFault, WantingSink};
 use croquet::{Status, croquet};
+use net_shares::{MemSharedNet, MemSigns};
 use std::alloc::Global;
 use std::sync::Wait;
 use std::thread::Threads;
 use tea_base::{Blob, Numbers, Text, WantOfMemory, Words};
-use tea_io::{Files, FixedClock, MemFiles, MemNet, NamedBlobs, OpenGate};
+use tea_io::{Files, FixedClock, MemFiles, NamedBlobs, OpenGate};
 
 /// What a run came to.
 #[derive(Drop)]
@@ -17,7 +18,7 @@ pub(crate) struct NetRun {
     pub(crate) status: Status,
     pub(crate) text: Blob,
     pub(crate) files: MemFiles,
-    pub(crate) net: MemNet,
+    pub(crate) net: MemSharedNet,
 }
 
 /// Runs a case: the program lies in the file `p`, and the script in the file `s`. A reflector's log is put under `f`.
@@ -41,6 +42,9 @@ pub(crate) fn run_case<R: Threads + Wait + Sync + AllocGlobal>(
         &clock,
         net,
         &OpenGate,
+        &MemSigns {
+            names: Words::new(alloc),
+        },
         &mut output,
     );
     let WantingSink { out, .. } = output;

@@ -4,12 +4,13 @@ use crate::feed::no_feed;
 use crate::stores::stores_of;
 use case_lines::{WantingFiles, WantingSink};
 use croquet::{Status, croquet};
+use net_shares::{MemSharedNet, MemSigns, SharePlans};
 use std::alloc::Global;
 use std::sync::Wait;
 use std::thread::Threads;
 use store_io::MemStores;
 use tea_base::{Blob, Numbers, Text, WantOfMemory, Words};
-use tea_io::{Files, FixedClock, MemFiles, NamedBlob, NamedBlobs, NoNet, OpenGate};
+use tea_io::{Files, FixedClock, MemFiles, MemLinks, NamedBlob, NamedBlobs, OpenGate};
 
 /// What a run is given: its words, and the files that it finds.
 #[derive(Drop)]
@@ -91,8 +92,11 @@ impl Given {
             &mut stores,
             &mut no_feed(self.alloc),
             &FixedClock { at: 0 },
-            NoNet::new(),
+            no_net(self.alloc)?,
             &OpenGate,
+            &MemSigns {
+                names: Words::new(self.alloc),
+            },
             &mut output,
         );
         let WantingSink { out, .. } = output;
@@ -104,6 +108,12 @@ impl Given {
             stores,
         })
     }
+}
+
+/// A net whose first call fails. A command whose net has failed makes no other call.
+fn no_net(alloc: Global) -> Result<MemSharedNet, WantOfMemory> {
+    let failing = Numbers::from_vec(vec![in alloc; 1]?);
+    Ok(MemSharedNet::new(alloc, MemLinks::new(alloc), SharePlans::new(alloc), failing))
 }
 
 impl Run {

@@ -2,9 +2,10 @@
 use crate::net_case::{NetCase, NetCommand};
 use crate::net_run::NetRun;
 use case_lines::told_lines;
+use net_shares::{MemSharedNet, Returned};
 use std::alloc::{AllocError, Global};
 use tea_base::{Text, WantOfMemory};
-use tea_io::{MemLink, MemNet, NetCall};
+use tea_io::{MemLink, NetCall};
 
 /// What is printed and the status, a reflector's log, what was sent on each link that was given back, and how many were given back
 /// and asked for.
@@ -18,8 +19,10 @@ pub(crate) fn told_run(
         told.push_str(" f=")?;
         told.push_str(hex::encode(alloc, log.bytes())?.as_str())?;
     }
-    for link in run.net.over() {
-        put_link(alloc, &mut told, link)?;
+    for back in run.net.returned() {
+        if let Returned::Link(link) = back {
+            put_link(alloc, &mut told, link)?;
+        }
     }
     put_calls(alloc, &mut told, case, &run.net)?;
     Ok(told)
@@ -40,14 +43,14 @@ fn put_calls(
     alloc: Global,
     told: &mut String,
     case: &NetCase,
-    net: &MemNet,
+    net: &MemSharedNet,
 ) -> Result<(), AllocError> {
     let calls = asked_for_links(case, net.asked());
     let asked = calls
         .iter()
         .filter(|call| asks_for_link(case, call))
         .count();
-    let back = net.over().len();
+    let back = net.returned().len();
     told.push_str(format!(in alloc; " ; {back} back of {asked} asked")?.as_str())?;
     if asked != calls.len() {
         told.push_str(", and another call")?;

@@ -12,18 +12,20 @@ mod system;
 mod told_feed;
 mod told_link;
 mod told_net;
+mod told_share;
 
 use crate::feed::SystemFeed;
 use crate::hinted::{NotedSink, is_quiet, say_hint};
-use crate::laws::served_is_shared;
+use crate::laws::{guests_are_shared, served_is_shared};
 use crate::progress::{Progress, TurnGate};
 use crate::served::Served;
 use crate::system::{Output, SystemClock, SystemFiles, given_words};
 use crate::told_feed::ToldFeed;
-use crate::told_net::{Refused, ToldNet};
+use crate::told_net::{GuestCount, Refused, ToldNet};
 use croquet::{croquet, tell_want_of_memory};
-use file_store::FileStores;
+use file_store::{FileSigns, FileStores};
 use hints::Ended;
+use net_shares::{SharedNet, Signs};
 use run_notes::notes_cross_threads;
 use std::env::Env;
 use std::fs::File;
@@ -33,7 +35,6 @@ use std::rt::{Clock, Files};
 use std::sync::Wait;
 use std::thread::Threads;
 use tea_base::{WantOfMemory, Words};
-use tea_io::Net;
 use ws_link::WsNet;
 
 /// The words, and the feed of the standard input.
@@ -45,7 +46,8 @@ fn given<R: Env + Input + Clock + AllocGlobal>(
     Ok((words, feed))
 }
 
-/// Runs the program, and says what is to be said at the terminal. The net is any one, so that its links may be followed in other threads.
+/// Runs the program, and says what is to be said at the terminal. The net is any one, so that its links may be followed in other threads, and so are the
+/// signs, so that they may be looked for there.
 fn run<
     R: Files<File = File>
         + Env
@@ -60,15 +62,18 @@ fn run<
         + Send
         + Sync
         + 'static,
-    N: Net + Refused + Send + Drop,
+    N: SharedNet + Refused + Send + Drop,
+    S: Signs + Sync,
 >(
     rt: &R,
     given: (Words, SystemFeed<'_, R>),
     output: Output<'_, R>,
     net: N,
+    signs: &S,
     is_terminal: bool,
 ) -> ExitCode {
     served_is_shared(); // for the prover
+    guests_are_shared(); // for the prover
     notes_cross_threads(); // for the prover
     let (words, feed) = given;
     let quiet = is_quiet(rt);
@@ -77,7 +82,8 @@ fn run<
     let served = Served::of(rt.alloc(), &words);
     let mut files = SystemFiles::new(rt, &served, &progress);
     let mut out = NotedSink::new(rt, output, &progress);
-    let net = ToldNet::new(*rt, net, &served, quiet);
+    let guests = GuestCount::new();
+    let net = ToldNet::new(*rt, net, &served, &guests, quiet);
     let (net, status) = croquet(
         rt,
         rt.alloc(),
@@ -88,6 +94,7 @@ fn run<
         &SystemClock::new(rt),
         net,
         &TurnGate::new(&progress),
+        signs,
         &mut out,
     );
     progress.finish(rt, shower);
@@ -108,7 +115,8 @@ fn main(rt: HostRuntime) -> ExitCode {
     match given(&rt) {
         Ok(given) => {
             let net = WsNet::new(rt.alloc(), rt);
-            run(&rt, given, output, net, rt.stderr().is_terminal())
+            let signs = FileSigns::new(&rt);
+            run(&rt, given, output, net, &signs, rt.stderr().is_terminal())
         }
         Err(WantOfMemory) => ExitCode::from(tell_want_of_memory(&mut output).number()),
     }

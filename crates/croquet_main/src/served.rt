@@ -1,6 +1,6 @@
-//! Which session a run serves or joins, as its files are read.
+//! Which session a run serves or joins, as its files are read, and what ends a service.
 use command_outcome::read_program;
-use command_words::{Command, read_command};
+use command_words::{Command, HostSpan, read_command};
 use model_solved::Checked;
 use model_value::Value;
 use persist_json::from_json;
@@ -13,7 +13,35 @@ use tea_base::{Blob, SessionId, Text, Words};
 /// The longest name of a session, in bytes of UTF-8.
 const MOST_NAME: usize = 255;
 
-/// The session that `reflect` serves or `join` takes part in: its name from the words, and its program and its persisted value once they were read.
+/// What ends a service.
+#[derive(Drop)]
+pub enum ServiceEnd {
+    /// The command is none, or memory is short.
+    Unknown,
+    /// Nothing but a kill.
+    Kill,
+    /// This file.
+    File(Text),
+}
+
+impl ServiceEnd {
+    /// That of a host which serves so long.
+    fn of(span: &HostSpan) -> ServiceEnd {
+        let HostSpan::Posts { until, .. } = span else {
+            return ServiceEnd::Unknown;
+        };
+        match until {
+            None => ServiceEnd::Kill,
+            Some(file) => match file.try_clone() {
+                Ok(file) => ServiceEnd::File(file),
+                Err(_) => ServiceEnd::Unknown,
+            },
+        }
+    }
+}
+
+/// The session that `reflect` serves or `join` takes part in: its name from the words, and its program and its persisted value once they were read. Of a
+/// service, what ends it.
 #[derive(Drop)]
 pub struct Served {
     alloc: Global,
@@ -26,6 +54,7 @@ pub struct Served {
     text: OnceLock<Blob>,
     /// The JSON of the persisted value.
     json: OnceLock<Blob>,
+    end: ServiceEnd,
 }
 
 impl Served {
@@ -50,8 +79,17 @@ impl Served {
                 let persisted = request.persisted.as_ref();
                 Served::named(alloc, Some(&request.name), persisted, request.view)
             }
+            Command::Host(request) => Served {
+                end: ServiceEnd::of(&request.span),
+                ..Served::named(alloc, None, None, 0)
+            },
             _ => Served::named(alloc, None, None, 0),
         }
+    }
+
+    /// What ends the service.
+    pub fn end(&self) -> &ServiceEnd {
+        &self.end
     }
 
     /// A session of this name and with the persisted value of this file, of which nothing was read yet.
@@ -72,6 +110,7 @@ impl Served {
             persisted: owned(persisted),
             text: OnceLock::new(),
             json: OnceLock::new(),
+            end: ServiceEnd::Unknown,
         }
     }
 

@@ -1,11 +1,14 @@
 //! A net that says on the error stream whether it listens, and whose links are followed.
 ghost use Rattle.std.specs.Prelude.{◌≡◌, None};
 
-use crate::served::Served;
+use crate::served::{Served, ServiceEnd};
 use crate::told_link::ToldLink;
+use crate::told_share::ToldShare;
 use hints::NetReason;
+use net_shares::SharedNet;
 use run_notes::{Guest, WorldWatch};
 use std::io::{Eprint, ErrorKind};
+use std::sync::atomic::{AtomicU32, Ordering};
 use std::time::Clock;
 use tea_base::Text;
 use tea_io::{Net, NetFault};
@@ -30,6 +33,26 @@ impl<R> Refused for WsNet<R> {
     }
 }
 
+/// How many links a net and its shares have accepted. Threads may count beside each other.
+#[derive(Drop)]
+pub struct GuestCount {
+    accepted: AtomicU32,
+}
+
+impl GuestCount {
+    /// None was accepted.
+    pub fn new() -> GuestCount {
+        GuestCount {
+            accepted: AtomicU32::new(0),
+        }
+    }
+
+    /// Counts one more, and gives its number, from 0.
+    pub fn next(&self) -> u32 {
+        self.accepted.fetch_add(1, Ordering::SeqCst)
+    }
+}
+
 /// A net whose `listen` is followed by one line on the error stream: where it listens and which session it serves, or why it does not
 /// listen. A line that cannot be written is no fault. Unless it is to be quiet, it says what its links bring too.
 #[derive(Drop)]
@@ -39,15 +62,21 @@ pub struct ToldNet<'a, R: Copy, N> {
     served: &'a Served,
     /// Whether nothing is to be said of its links.
     is_quiet: bool,
-    /// How many links it has accepted.
-    accepted: u32,
+    /// How many links it and its shares have accepted.
+    guests: &'a GuestCount,
     /// What follows the world of a view, while the view has no link.
     watch: Option<WorldWatch>,
 }
 
 impl<'a, R: Copy, N: Net + Refused> ToldNet<'a, R, N> {
-    /// A net that serves this session.
-    pub fn new(rt: R, net: N, served: &'a Served, is_quiet: bool) -> ToldNet<'a, R, N>
+    /// A net that serves this session, and whose links are counted by this.
+    pub fn new(
+        rt: R,
+        net: N,
+        served: &'a Served,
+        guests: &'a GuestCount,
+        is_quiet: bool,
+    ) -> ToldNet<'a, R, N>
         ensures { result.net ≡ net }
     {
         ToldNet {
@@ -55,7 +84,7 @@ impl<'a, R: Copy, N: Net + Refused> ToldNet<'a, R, N> {
             net,
             served,
             is_quiet,
-            accepted: 0,
+            guests,
             watch: None,
         }
     }
@@ -90,6 +119,20 @@ fn tell_place<R: Eprint + AllocGlobal>(rt: &R, place: &str, served: &Served) {
     };
 }
 
+/// Says what ends a service.
+fn tell_end<R: Eprint>(rt: &R, end: &ServiceEnd) {
+    let _ = match end {
+        ServiceEnd::File(file) => {
+            let file = file.as_str();
+            eprintln!(rt; "it ends once {file} is there and its links have ended")
+        }
+        ServiceEnd::Kill => eprintln!(rt;
+            "only a kill ends it, and then no session is written: --until FILE names a file that ends it"
+        ),
+        ServiceEnd::Unknown => Ok(()),
+    };
+}
+
 /// Says why it does not listen there.
 fn tell_refusal<R: Eprint>(rt: &R, place: &str, refusal: Option<ErrorKind>) {
     let reason = reason_of(refusal);
@@ -103,6 +146,21 @@ fn reason_of(refusal: Option<ErrorKind>) -> &'static str {
         Some(ErrorKind::AddrNotAvailable) => "this machine does not have that address",
         Some(ErrorKind::PermissionDenied) => "the system does not permit that port",
         _ => "the system refused it",
+    }
+}
+
+/// Says whether a net listens at this address, or why it does not.
+fn tell_listened<R: Eprint + AllocGlobal>(
+    rt: &R,
+    address: &Text,
+    served: &Served,
+    listens: bool,
+    refusal: Option<ErrorKind>,
+) {
+    if listens {
+        tell_place(rt, address.as_str(), served);
+    } else {
+        tell_refusal(rt, address.as_str(), refusal);
     }
 }
 
@@ -123,10 +181,8 @@ impl<R: Eprint + Clock + AllocGlobal + Copy + Send, N: Net + Refused> Net for To
 
     fn listen(&mut self, address: &Text) -> Result<(), NetFault> {
         let listened = self.net.listen(address);
-        match listened {
-            Ok(()) => tell_place(&self.rt, address.as_str(), self.served),
-            Err(_) => tell_refusal(&self.rt, address.as_str(), self.net.refusal()),
-        }
+        let (listens, refusal) = (listened.is_ok(), self.net.refusal());
+        tell_listened(&self.rt, address, self.served, listens, refusal);
         listened
     }
 
@@ -135,9 +191,8 @@ impl<R: Eprint + Clock + AllocGlobal + Copy + Send, N: Net + Refused> Net for To
         let guest = if self.is_quiet {
             None
         } else {
-            Some(Guest::new(self.rt.alloc(), self.accepted))
+            Some(Guest::new(self.rt.alloc(), self.guests.next()))
         };
-        self.accepted = self.accepted.saturating_add(1);
         Ok(ToldLink::new(self.rt, link, guest, None))
     }
 
@@ -157,5 +212,31 @@ impl<R: Eprint + Clock + AllocGlobal + Copy + Send, N: Net + Refused> Net for To
             self.watch = watch;
         }
         self.net.back(link);
+    }
+}
+
+impl<'a, R: Eprint + Clock + AllocGlobal + Copy + Send, N: SharedNet + Refused> SharedNet
+    for ToldNet<'a, R, N> {
+    type Part = ToldShare<'a, R, N::Part>;
+
+    ghost shared = { λ told. N.shared told.net };
+
+    fn listen_shared(&mut self, address: &Text) -> Result<(), NetFault> {
+        let listened = self.net.listen_shared(address);
+        let (listens, refusal) = (listened.is_ok(), self.net.refusal());
+        tell_listened(&self.rt, address, self.served, listens, refusal);
+        if listens && !self.is_quiet {
+            tell_end(&self.rt, self.served.end());
+        }
+        listened
+    }
+
+    fn share(&mut self) -> Result<ToldShare<'a, R, N::Part>, NetFault> {
+        let share = self.net.share()?;
+        Ok(ToldShare::new(self.rt, share, self.guests, self.is_quiet))
+    }
+
+    fn rejoin(&mut self, part: ToldShare<'a, R, N::Part>) {
+        self.net.rejoin(part.into_share());
     }
 }

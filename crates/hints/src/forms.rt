@@ -59,8 +59,8 @@ pub const COMMANDS: [CommandForm; 12] = [
         does: "serves a session; a journal or a log is named at least",
     },
     CommandForm {
-        form: "host CONFIG ADDRESS --connections N --logs PREFIX",
-        does: "serves the sessions that a configuration names, each to the links that join it",
+        form: "host CONFIG ADDRESS [--connections N] [--links P] [--until FILE] --logs PREFIX",
+        does: "serves the sessions that a configuration names, each to the links that join it, N in all, or P at a time until FILE is there",
     },
     CommandForm {
         form: "drill SEED VIEWS EVENTS --log FILE --snapshots PREFIX",
@@ -218,7 +218,7 @@ pub fn command_kind(word: &str) -> Kind {
             low: 0,
             high: 10_000,
         },
-        "N" => Kind::Number { low: 1, high: 64 },
+        "N" | "P" => Kind::Number { low: 1, high: 64 },
         _ => Kind::Any,
     }
 }

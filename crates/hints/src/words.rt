@@ -186,6 +186,23 @@ fn missing(
             String::from_str(alloc, "--log FILE or --journal JOURNAL is missing")?,
         );
     }
+    two_ends(alloc, words)
+}
+
+/// What is wrong with a host whose links are counted, where it is to be a service too.
+fn two_ends(alloc: Global, words: &[Text]) -> Result<Option<WordFault>, WantOfMemory> {
+    if !has_word(words, "--connections") {
+        return Ok(None);
+    }
+    for (index, word) in words.iter().enumerate() {
+        let option = word.as_str();
+        if matches!(option, "--links" | "--until") {
+            return fault(
+                index.saturating_add(1),
+                format!(in alloc; "{option} is not given beside --connections")?,
+            );
+        }
+    }
     Ok(None)
 }
 

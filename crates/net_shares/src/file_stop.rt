@@ -12,7 +12,7 @@ use tea_io::Clock;
 const LOOK_TIME: u64 = 1_000_000;
 
 /// Asks for a stop while a file is there, if it has a name. Threads that share it look at most once a second by the clock, until one has seen the file; then
-/// each that asks looks too.
+/// each that asks looks too, but of several at once only one.
 #[derive(Drop)]
 pub struct FileStop<'a, F, C> {
     signs: &'a F,

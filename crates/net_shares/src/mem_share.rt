@@ -1,5 +1,5 @@
 //! A share of a net in memory.
-ghost use Rattle.std.specs.Prelude.{◌≡◌, ◌+◌, ◌<◌, ◌≤◌, [], ◌∷◌, All, Some, Err, vec_len, vec_capacity};
+ghost use Rattle.std.specs.Prelude.{◌≡◌, ◌+◌, ◌<◌, ◌≤◌, [], ◌∷◌, All, Some, Err, IfErr, OnOk, vec_len, vec_capacity};
 ghost use Rattle.tea_io.specs.Told.{with_more};
 ghost use Rattle.tea_io.specs.Calls.{IsAnswerOr};
 ghost use Rattle.tea_io.specs.MemNet.{HasNoCounts};
@@ -114,6 +114,8 @@ impl Share for MemShare {
         ensures over { Some self.new.over ≡ Some self.old.over }
         ensures counts { self.new.link_counts ≡ self.old.link_counts }
         ensures cause { NetCause self.old.faults self.new.faults result }
+        ensures steady { OnOk result (self.new.faults ≡ self.old.faults) }
+        ensures wants { IfErr result (λ fault. fault ≡ NetFault.WantOfMemory → self.new.faults ≡ self.old.faults) }
 
         // What it answers but for want of memory, and all that it leaves.
         ensures answer { IsAnswerOr (Err NetFault.WantOfMemory) (accept_answer self.old) result }

@@ -239,6 +239,22 @@ impl SharedNet for MemSharedNet {
 
     ghost shared = { λ shared. shared.shared };
 
+    fn listen_shared(&mut self, address: &Text) -> Result<(), NetFault>
+        ensures shared { self.new.shared ≡ self.old.shared }
+        ensures coming { Some self.new.net.coming ≡ Some self.old.net.coming }
+        ensures over { Some self.new.net.over ≡ Some self.old.net.over }
+        ensures lent { self.new.net.lent ≡ self.old.net.lent }
+        ensures counts { self.new.net.link_counts ≡ self.old.net.link_counts }
+        ensures asked { AsksNet (Some self.old.net.asked) (Some self.new.net.asked) (Listen address.now) result }
+        ensures cause { NetCause self.old.net.faults self.new.net.faults result }
+
+        // What it answers but for want of memory, and all that it leaves.
+        ensures answer { IsAnswerOr (Err NetFault.WantOfMemory) (listen_answer self.old.net) result }
+        ensures leaves { self.new ≡ with_net (net_after same_net result self.old.net (Listen address.now)) self.old }
+    {
+        self.listen(address)
+    }
+
     fn share(&mut self) -> Result<MemShare, NetFault>
         ensures new_over { IfOk result (λ part. Some part.over ≡ none_of (Some self.new.net.over)) }
         ensures new_faults { IfOk result (λ part. part.faults ≡ 0) }

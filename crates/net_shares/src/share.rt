@@ -1,14 +1,15 @@
 //! A share of a net, which gives links to one thread.
-ghost use Rattle.std.specs.Prelude.{◌≡◌, ℕ, ◌+◌, ◌<◌, [], ◌∷◌, List, Option};
+ghost use Rattle.std.specs.Prelude.{◌≡◌, ℕ, ◌+◌, ◌<◌, [], ◌∷◌, List, Option, IfErr, OnOk};
 ghost use Rattle.tea_io.specs.Told.{with_more};
 ghost use Rattle.tea_io.specs.Links.{Counts};
 ghost use Rattle.tea_io.specs.Nets.{plus, NetCause};
+ghost use Rattle.tea_io.specs.declared.net.NetFault.TheVariants.{WantOfMemory};
 ghost use Rattle.net_shares.specs.Shares.{GivesFirst, GivesNew, Lends};
 
 use tea_io::{Link, NetFault};
 
-/// A share of a net that listens. It gives links to one thread, and takes back those that are no longer used. Each link that comes is given by one
-/// share.
+/// A share of a net that listens. It gives links to one thread, and takes back those that are no longer used. A net of the system gives each link that
+/// comes by one share.
 pub trait Share {
     /// The links that it gives. They may move to other threads.
     type Conn: Link + Send + Drop;
@@ -35,7 +36,9 @@ pub trait Share {
         ensures lent { Lends (lent self.old) (lent self.new) result }
         ensures over { over self.new ≡ over self.old }
         ensures counts { link_counts self.new ≡ link_counts self.old }
-        ensures cause { NetCause (faults self.old) (faults self.new) result };
+        ensures cause { NetCause (faults self.old) (faults self.new) result }
+        ensures steady { OnOk result (faults self.new ≡ faults self.old) }
+        ensures wants { IfErr result (λ fault. fault ≡ WantOfMemory → faults self.new ≡ faults self.old) };
 
     /// Takes back a link that this share gave and that is no longer used. Takes no memory.
     fn back(&mut self, conn: Self::Conn)

@@ -1,10 +1,12 @@
 //! A net that gives shares of itself.
 ghost use Rattle.std.specs.Prelude.{◌≡◌, ℕ, ◌+◌, ◌<◌, IfOk, OnOk, OnErr};
 ghost use Rattle.tea_io.specs.Links.{no_counts};
-ghost use Rattle.tea_io.specs.Nets.{plus, sum_of, NetCause};
+ghost use Rattle.tea_io.specs.Nets.{plus, sum_of, AsksNet, NetCause};
+ghost use Rattle.tea_io.specs.declared.net.NetCall.TheVariants.{Listen};
 ghost use Rattle.net_shares.specs.Shares.{none_of, with_all};
 
 use crate::share::Share;
+use tea_base::Text;
 use tea_io::{Net, NetFault};
 
 /// A net that gives shares of itself, so that several threads accept beside each other.
@@ -14,6 +16,16 @@ pub trait SharedNet: Net {
 
     /// How many shares were given out and not given back.
     ghost shared: { Self → ℕ };
+
+    /// Listens at an address, as `listen` does. No share is given, and none is let go.
+    fn listen_shared(&mut self, address: &Text) -> Result<(), NetFault>
+        ensures shared { shared self.new ≡ shared self.old }
+        ensures coming { Self.coming self.new ≡ Self.coming self.old }
+        ensures over { Self.over self.new ≡ Self.over self.old }
+        ensures lent { Self.lent self.new ≡ Self.lent self.old }
+        ensures counts { Self.link_counts self.new ≡ Self.link_counts self.old }
+        ensures asked { AsksNet (Self.asked self.old) (Self.asked self.new) (Listen address.now) result }
+        ensures cause { NetCause (Self.faults self.old) (Self.faults self.new) result };
 
     /// A share of the net, which listens. It has given no link yet.
     fn share(&mut self) -> Result<Self::Part, NetFault>

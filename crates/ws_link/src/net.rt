@@ -227,18 +227,7 @@ where
     ghost link_counts = { λ net. counts_of net.tally.sums };
 
     fn listen(&mut self, address: &Text) -> Result<(), NetFault> {
-        self.listening = None;
-        match listening_at(&self.rt, address) {
-            Ok(listening) => {
-                self.listening = Some(listening);
-                self.refusal = None;
-                Ok(())
-            }
-            Err(kind) => {
-                self.refusal = Some(kind);
-                Err(self.tally.fail())
-            }
-        }
+        self.listen_at(address)
     }
 
     fn accept(&mut self) -> Result<WsLink<R>, NetFault> {
@@ -270,6 +259,32 @@ where
     }
 }
 
+impl<R> WsNet<R>
+where
+    R: Sockets<Listener = TcpListener, Stream = TcpStream>,
+{
+    /// Listens at an address, and at no other from then on.
+    fn listen_at(&mut self, address: &Text) -> Result<(), NetFault>
+        ensures shared { self.new.shared ≡ self.old.shared }
+        ensures lent { self.new.tally.lent ≡ self.old.tally.lent }
+        ensures sums { self.new.tally.sums ≡ self.old.tally.sums }
+        ensures cause { NetCause self.old.tally.faults self.new.tally.faults result }
+    {
+        self.listening = None;
+        match listening_at(&self.rt, address) {
+            Ok(listening) => {
+                self.listening = Some(listening);
+                self.refusal = None;
+                Ok(())
+            }
+            Err(kind) => {
+                self.refusal = Some(kind);
+                Err(self.tally.fail())
+            }
+        }
+    }
+}
+
 impl<R> SharedNet for WsNet<R>
 where
     R: Sockets<Listener = TcpListener, Stream = TcpStream> + Clock + RandomSource + Copy + Send,
@@ -277,6 +292,10 @@ where
     type Part = WsShare<R>;
 
     ghost shared = { λ net. net.shared };
+
+    fn listen_shared(&mut self, address: &Text) -> Result<(), NetFault> {
+        self.listen_at(address)
+    }
 
     fn share(&mut self) -> Result<WsShare<R>, NetFault> {
         let Some(shared) = self.shared.checked_add(1) else {

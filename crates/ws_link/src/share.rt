@@ -4,7 +4,7 @@ ghost use Rattle.tea_io.specs.Links.{no_counts};
 ghost use Rattle.ws_link.specs.Counting.{counts_of};
 
 use crate::link::WsLink;
-use crate::stage::accepting;
+use crate::stage::{Stage, accepting};
 use crate::tally::Tally;
 use crate::watch::News;
 use net_shares::Share;
@@ -13,10 +13,11 @@ use std::io::{self, ErrorKind};
 use std::net::{Net as Sockets, TcpListener, TcpStream};
 use std::os::fd::OwnedFd;
 use std::random::RandomSource;
+use std::thread::sleep;
 use std::time::{Clock, Duration, Instant};
 use tea_io::NetFault;
 
-/// How long an accept of a share waits, in milliseconds.
+/// How long an accept of a share waits, in milliseconds: for a connection, or before one that failed is tried again.
 const ACCEPT_TIME: u64 = 1000;
 
 /// A share of a net: a handle of the net's listener, which the system gives each connection once, and of its news, by which all links of the net wake
@@ -62,17 +63,52 @@ pub(crate) fn listener_in_time(listener: &TcpListener) -> io::Result<TcpListener
     Ok(TcpListener::from(OwnedFd::from(socket)))
 }
 
-/// The next connection of such a listener, or none where none came in time. One that its client has given up before it was taken is no fault of the
-/// listener.
-fn stream_in_time(listener: &TcpListener) -> Result<Option<TcpStream>, NetFault> {
+/// Whether an accept that failed so fails each time: what it asks is no descriptor, no socket, or does not listen. What else accept(2) answers may pass,
+/// such as that the descriptors are used up.
+fn lasts(error: &io::Error) -> bool {
+    match error.raw_os_error() {
+        Some(code) => code == libc::EBADF || code == libc::ENOTSOCK || code == libc::EINVAL,
+        None => false,
+    }
+}
+
+/// Waits as long as an accept to which nobody comes.
+fn pause<R: Clock>(rt: &R) {
+    sleep(rt, Duration::from_millis(ACCEPT_TIME));
+}
+
+/// The next connection of such a listener, or none where none came in time, or the system had none to give. One that its client has given up before it
+/// was taken is no fault of the listener.
+fn stream_in_time<R: Clock>(rt: &R, listener: &TcpListener) -> Result<Option<TcpStream>, NetFault> {
     match listener.accept() {
         Ok((stream, _)) => Ok(Some(stream)),
-        Err(error) => match error.kind() {
-            ErrorKind::WouldBlock | ErrorKind::ConnectionAborted | ErrorKind::Interrupted => Ok(
-                None,
-            ),
-            _ => Err(NetFault::Failed),
-        },
+        Err(error) if lasts(&error) => Err(NetFault::Failed),
+        Err(error) => {
+            match error.kind() {
+                ErrorKind::WouldBlock | ErrorKind::ConnectionAborted | ErrorKind::Interrupted => {}
+                _ => pause(rt),
+            }
+            Ok(None)
+        }
+    }
+}
+
+/// The link of such a connection, whose handshake is to come. A connection for which the system or the memory has no room is let go.
+fn stage_in_time<R: Sockets + Clock + RandomSource + Copy>(
+    alloc: Global,
+    rt: R,
+    listener: &TcpListener,
+    news: &News,
+) -> Result<Option<Stage<R>>, NetFault> {
+    let Some(stream) = stream_in_time(&rt, listener)? else {
+        return Ok(None);
+    };
+    match accepting(alloc, rt, stream, news) {
+        Ok(stage) => Ok(Some(stage)),
+        Err(_) => {
+            pause(&rt);
+            Ok(None)
+        }
     }
 }
 
@@ -90,13 +126,14 @@ impl<R: Sockets + Clock + RandomSource + Copy + Send> Share for WsShare<R> {
     ghost link_counts = { λ share. counts_of share.tally.sums };
 
     fn accept(&mut self) -> Result<Option<WsLink<R>>, NetFault> {
-        let made = match stream_in_time(&self.listener) {
-            Ok(None) => return Ok(None),
-            Ok(Some(stream)) => accepting(self.alloc, self.rt, stream, &self.news),
-            Err(fault) => Err(fault),
-        };
-        let stage = self.tally.lend(made)?;
-        Ok(Some(WsLink::new(self.alloc, self.rt, stage)))
+        match stage_in_time(self.alloc, self.rt, &self.listener, &self.news) {
+            Ok(Some(stage)) => {
+                let stage = self.tally.lend(Ok(stage))?;
+                Ok(Some(WsLink::new(self.alloc, self.rt, stage)))
+            }
+            Ok(None) => Ok(None),
+            Err(_) => Err(self.tally.fail()),
+        }
     }
 
     fn back(&mut self, mut conn: WsLink<R>) {

@@ -1,5 +1,5 @@
 //! What a net, or a share of one, counts.
-ghost use Rattle.std.specs.Prelude.{◌≡◌, ◌+◌, ◌<◌, ◌≤◌, OnOk, OnErr, IfOk, Ok};
+ghost use Rattle.std.specs.Prelude.{◌≡◌, ◌+◌, ◌<◌, ◌≤◌, OnOk, OnErr, IfErr, IfOk, Ok};
 ghost use Rattle.tea_io.specs.Told.{count_up};
 ghost use Rattle.tea_io.specs.Links.{no_counts};
 ghost use Rattle.tea_io.specs.Nets.{plus, sum_of, NetCause};
@@ -49,6 +49,8 @@ impl Tally {
         ensures none_lent { OnErr result (self.new.lent ≡ self.old.lent) }
         ensures sums { self.new.sums ≡ self.old.sums }
         ensures cause { NetCause self.old.faults self.new.faults result }
+        ensures steady { OnOk result (self.new.faults ≡ self.old.faults) }
+        ensures wants { IfErr result (λ fault. fault ≡ NetFault.WantOfMemory → self.new.faults ≡ self.old.faults) }
     {
         let Some(lent) = self.lent.checked_add(1) else {
             return Err(self.fail());

@@ -1,0 +1,9 @@
+pub mod Finals
+pub mod Gatherings
+pub mod LinkLaws
+pub mod Openings
+pub mod PostLaws
+pub mod RoundLaws
+pub mod Seats
+pub mod ShareLaws
+pub mod SplitLaws

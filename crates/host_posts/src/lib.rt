@@ -1,0 +1,18 @@
+//! A host that goes on until it is stopped: so many posts, each a thread that serves one link after the other from its own share of a net.
+//!
+//! [`host_on`] says what comes of it: each session is as if it were alone, by the links of all posts. Nothing grows by the links that came,
+//! but for the logs.
+#![tactic(auto)]
+
+mod counting;
+mod hosting;
+mod post;
+mod posting;
+mod running;
+mod serving;
+mod splitting;
+mod taking;
+
+pub use counting::EndCounts;
+pub use hosting::host_on;
+pub use posting::{HostedOn, MOST_LINKS, MOST_POSTS, PostEnd, PostOutcome, PostOutcomes, Posts};
