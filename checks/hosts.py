@@ -10,12 +10,11 @@ import time
 import websocket
 from case import Case, expect, expect_that
 from reference import croquet, log_text, read_stored
-from reflector import EMPTY, LEAVE, Reflector, View, hold_port, join_frame, leave_all, send_frame
+from reflector import EMPTY, LEAVE, Reflector, View, expect_ways, hold_port, join_frame, leave_all, send_frame
 from websocket import BINARY, TEXT, frame
 
 LINK = re.compile(r"connection (\d+) session (\d+|none) (.+)")
 SESSION = re.compile(r"session (\d+) entries (\d+) time (\d+)( id [0-9a-f]{64})?")
-WAYS = ["left", "link-end", "link-fault", "idle", "stale", "refused", "memory", "unkept", "silent"]
 MASK = b"\x37\xfa\x21\x3d"
 SILENCE = 0.05
 
@@ -54,13 +53,6 @@ class Host(Reflector):
         """A session that is not listed."""
         return Session(self, name, EMPTY)
 
-    def stop(self):
-        """Makes the file that ends a service, and looks at what came of it."""
-        with open(os.path.join(self.run.folder, "u"), "xb"):
-            pass
-        self.run.given["u"] = b""
-        return self.end()
-
 
 @contextlib.contextmanager
 def killed_if_left(host):
@@ -98,8 +90,7 @@ def expect_served(run, posts, ways, sessions, made=()):
     """In which ways the links of a service of so many posts ended, all of which were stopped, and how many entries each session has."""
     expect(0, run.status)
     lines = run.text.decode().splitlines()
-    counts = " ".join(f"{way} {ways.get(way, 0)}" for way in WAYS)
-    expect([f"links {counts}", f"posts {posts} stopped {posts} failed 0 memory 0 spent 0"], lines[:2])
+    expect_ways(lines[:2], posts, ways)
     return expect_sessions(run, lines[2:], sessions, made)
 
 
@@ -338,7 +329,7 @@ def a_service_ends_once_its_file_is_there(program):
         of_first.joined()
         expect(2, of_second.done(b"hi")[0])
         leave_all(of_second, of_first)
-        run = host.stop()
+        run = host.stop("u")
     logs = expect_served(run, 64, {"left": 2}, [2, 3])
     expect_entries(logs[0], "1:join:7 2:exit:7")
     expect_entries(logs[1], "1:join:7 2:event:7:1:6869 3:exit:7")
@@ -348,7 +339,7 @@ def a_service_that_serves_nobody_ends(program):
     with serving(program, ["a"], 1) as host:
         host.connect().close()
         time.sleep(SILENCE)
-        run = host.stop()
+        run = host.stop("u")
     expect_served(run, 1, {"link-end": 1, "silent": 1}, [0])
 
 
@@ -382,7 +373,7 @@ def two_hundred_links_in_a_row_through_two_posts(program):
             view.joined()
             view.done(str(number).encode())
             leave_all(view)
-        run = host.stop()
+        run = host.stop("u")
     logs = expect_served(run, 2, {"left": count}, [3 * count // 2] * 2)
     for place, log in enumerate(logs):
         events = [(entry.view, entry.payload) for entry in log.log if entry.kind == "event"]
@@ -403,7 +394,7 @@ def a_link_waits_while_all_posts_serve(program):
         third.stop_sending()
         third.read_all()
         leave_all(first[1])
-        run = host.stop()
+        run = host.stop("u")
     expect_served(run, 2, {"left": 2, "link-end": 1, "silent": 1}, [4])
 
 
@@ -415,7 +406,7 @@ def a_service_makes_sessions_on_demand(program):
             view.joined()
         expect(3, views[1].done(b"hi")[0])
         leave_all(*views)
-        run = host.stop()
+        run = host.stop("u")
     expect_served(run, 3, {"left": 3}, [2, 5], [other.ident])
 
 
@@ -438,11 +429,11 @@ def links_that_come_and_go_take_no_more_memory(program):
     with serving(program, ["a"], 8) as host:
         be_refused(host, 200)
         before = memory_of(host.run.process)
-        be_refused(host, 2000)
+        be_refused(host, 20_000)
         grown = memory_of(host.run.process) - before
-        run = host.stop()
-    expect_that(grown <= 256, "256 kilobytes at most for 2,000 links more", grown)
-    expect_served(run, 8, {"refused": 2200}, [0])
+        run = host.stop("u")
+    expect_that(grown <= 256, "256 kilobytes at most for 20,000 links more", grown)
+    expect_served(run, 8, {"refused": 20_200}, [0])
 
 
 def work_of(process):
@@ -459,7 +450,7 @@ def a_service_to_which_nobody_comes_rests(program):
         before = work_of(host.run.process)
         time.sleep(3)
         worked = work_of(host.run.process) - before
-        host.stop()
+        host.stop("u")
     expect_that(worked <= 0.3, "0.3 seconds of a processor at most in 3", worked)
 
 

@@ -81,9 +81,10 @@ class Journaled(Reflector):
         self.port = self.holder.getsockname()[1]
         self.begun, self.address = time.monotonic(), f"127.0.0.1:{self.port}"
         self.listening = f"listening at {self.address}, session {at.ident.hex()}\n".encode()
+        counted = [] if connections is None else ["--connections", str(connections)]
         self.run = at.program.launched_by(*launcher).start(
-            ["reflect", at.at("p"), "a", self.address, "--journal", at.at(name), "--connections", str(connections),
-             *options], errors=self.listening)
+            ["reflect", at.at("p"), "a", self.address, "--journal", at.at(name), *counted, *options],
+            errors=self.listening)
 
     def kill(self, by=signal.SIGKILL):
         """Ends it by a signal."""

@@ -12,6 +12,7 @@ from websocket import BINARY, CLOSE, PING, PONG, Wire, frame
 
 EMPTY = b"class Root{init(o){}}"
 LAST_LINE = re.compile(r"entries (\d+) time (\d+)")
+WAYS = ["left", "link-end", "link-fault", "idle", "stale", "refused", "memory", "unkept", "silent"]
 LEAVE, ALIVE = croquet.LEAVE, croquet.ALIVE
 # Frames that may come at any time.
 EXPECTED = ("recv", "tick", "sync", "alive", "ping")
@@ -52,11 +53,14 @@ def snap_frame(time_, snapshot):
 
 
 class Reflector:
-    """A run of `reflect` of a session named `a`. It goes on from a stored session, where one is given."""
+    """A run of `reflect` of a session named `a`. It goes on from a stored session, where one is given. It serves without an end that is counted, where its
+    links are not."""
 
-    def __init__(self, program, connections, source=EMPTY, port=None, json=None, stored=None, log="f"):
+    def __init__(self, program, connections, source=EMPTY, port=None, json=None, stored=None, log="f", more=()):
         persisted = None if json is None else croquet.from_json(json)
-        options, files = ([], {}) if json is None else (["--persisted", "j"], {"j": json})
+        options, files = (list(more), {}) if json is None else ([*more, "--persisted", "j"], {"j": json})
+        if connections is not None:
+            options = ["--connections", str(connections), *options]
         if stored is not None:
             options, files = [*options, "--from", "o"], {**files, "o": stored}
         self.ident = croquet.session_id(b"a", source, persisted)
@@ -64,7 +68,7 @@ class Reflector:
         self.port = port or self.holder.getsockname()[1]
         self.begun, self.address = time.monotonic(), f"127.0.0.1:{self.port}"
         self.run = program.start(
-            ["reflect", "p", "a", self.address, "--connections", str(connections), "--log", log, *options],
+            ["reflect", "p", "a", self.address, "--log", log, *options],
             {"p": source, **files}, f"listening at {self.address}, session {self.ident.hex()}\n".encode())
         self.wires = []
 
@@ -96,6 +100,13 @@ class Reflector:
     def view(self, view, want="whole", after=0, receive_buffer=None):
         return View(self, view, want, after, receive_buffer)
 
+    def stop(self, file):
+        """Makes the file that ends a service, and looks at what came of it."""
+        with open(os.path.join(self.run.folder, file), "xb"):
+            pass
+        self.run.given[file] = b""
+        return self.end()
+
     def end(self):
         """What came of it, once all its links have ended."""
         for held in [*self.wires, *filter(None, [self.holder])]:
@@ -104,9 +115,9 @@ class Reflector:
 
 
 @contextlib.contextmanager
-def reflecting(program, connections, source=EMPTY, json=None, stored=None, log="f"):
+def reflecting(program, connections, source=EMPTY, json=None, stored=None, log="f", more=()):
     """A reflector that is killed where the check does not come to its end."""
-    reflector = Reflector(program, connections, source, json=json, stored=stored, log=log)
+    reflector = Reflector(program, connections, source, json=json, stored=stored, log=log, more=more)
     try:
         yield reflector
     finally:
@@ -244,6 +255,12 @@ def expect_words(run, words):
     lines = run.text.decode().rstrip("\n").split("\n")
     expect(0, run.status)
     expect([f"connection {place} {word}" for place, word in enumerate(words)], lines[:-1])
+
+
+def expect_ways(lines, posts, ways):
+    """In which ways the links of so many posts ended, all of which were stopped."""
+    counts = " ".join(f"{way} {ways.get(way, 0)}" for way in WAYS)
+    expect([f"links {counts}", f"posts {posts} stopped {posts} failed 0 memory 0 spent 0"], lines)
 
 
 def expect_entries(entries, wanted):

@@ -23,8 +23,8 @@ COMMANDS = {"stamp": (1, {"--from", "--log"}, set()), "check": (1, set(), set())
             "votes": (1, set(), set()),
             "hub": (1, {"--logs"}, set()),
             "join": (5, {"--persisted"}, set()),
-            "reflect": (3, {"--persisted", "--from", "--connections", "--journal", "--log"}, {"--connections"}),
-            "host": (2, {"--connections", "--logs"}, {"--connections", "--logs"}),
+            "reflect": (3, {"--persisted", "--from", "--connections", "--links", "--until", "--journal", "--log"}, set()),
+            "host": (2, {"--connections", "--links", "--until", "--logs"}, {"--logs"}),
             "drill": (3, {"--log", "--snapshots"}, {"--log", "--snapshots"})}
 LIMITS = {"script": croquet.SCRIPT_BYTES, "program": croquet.PROGRAM_BYTES, "log": croquet.LOG_FILE_BYTES,
           "snapshot": croquet.MOST_SNAPSHOT, "persisted": croquet.MOST_JSON,
@@ -398,6 +398,48 @@ def join(plain, options):
         croquet.ViewRun(replica, net, Output).run(script)
 
 
+# ---------------------------------------------------------------- how long links are served
+
+WAYS = ["left", "link-end", "link-fault", "idle", "stale", "refused", "memory", "unkept"]
+
+
+def span_of(options):
+    """How many links are served, where they are counted; else by how many posts, and the file that ends these."""
+    if "--connections" in options:
+        usage("--links" not in options and "--until" not in options)
+        return number(options["--connections"], 1, 65), None, None
+    return None, number(options.get("--links", "64"), 1, 65), options.get("--until")
+
+
+def serve_by_posts(listener, posts, until, serve):
+    """Serves one link after the other in each of so many threads, until the file is there. Gives how the links ended."""
+    ends, taking = [], threading.Lock()
+
+    def serve_on():
+        while until is None or not os.path.exists(until):
+            with taking:
+                link = links.accept_soon(listener)
+            if link is not None:
+                ends.append(serve(link))
+                links.close_all([link])
+
+    threads = [threading.Thread(target=serve_on) for _ in range(posts)]
+    for thread in threads:
+        thread.start()
+    for thread in threads:
+        thread.join()
+    return ends
+
+
+def say_ways(ends, posts):
+    """In which ways links have ended, each with the number of its session, if one served it; and that all posts were stopped."""
+    words = [word.split()[0] for _, word in ends]
+    counts = [f"{way} {words.count(way)}" for way in WAYS]
+    silent = sum(place is None for place, _ in ends)
+    say(" ".join(["links", *counts, f"silent {silent}"]))
+    say(f"posts {posts} stopped {posts} failed 0 memory 0 spent 0")
+
+
 # ---------------------------------------------------------------- a reflector
 
 
@@ -406,20 +448,37 @@ Reflecting, Talk = croquet.Reflecting, croquet.Talk
 
 def reflect(plain, options):
     usage("--log" in options or "--journal" in options)
-    name, count = check_name(plain[1]), number(options["--connections"], 1, 65)
+    name, (count, posts, until) = check_name(plain[1]), span_of(options)
     source = read_file(plain[0], "program")
     croquet.read_program(source)
     croquet.check_address(plain[2])
     ident = croquet.session_id(name, source, read_persisted(options))
     shared, talk = shared_session(ident, options)
-    accepted, words = [], {}
     try:
         listener = links.listen(links.socket_address(plain[2]))
     except OSError:
         tell(f"cannot listen at {plain[2]}: the port is in use")
         raise croquet.Ended("net-fault", 6) from None
     tell(f"listening at {plain[2]}, session {shared.ident.hex()}")
-    threads = []
+    if count is None:
+        ends = serve_by_posts(listener, posts, until, lambda link: serve_heard(shared, talk, link))
+    else:
+        words = serve_counted(listener, shared, talk, count)
+    if "--log" in options:
+        write_file(options["--log"], shared.session.encoded())
+    if count is None:
+        say_ways(ends, posts)
+    else:
+        for place in sorted(words):
+            say(f"connection {place} {words[place]}")
+    say(f"entries {len(shared.session.log)} time {shared.session.horizon}")
+    if is_shut(shared):
+        raise croquet.Ended("write-fault", 5)
+
+
+def serve_counted(listener, shared, talk, count):
+    """Serves so many links. Gives how each ended, by its number."""
+    accepted, words, threads = [], {}, []
     while len(accepted) < count and not is_shut(shared):
         link = links.accept_soon(listener)
         if link is not None:
@@ -430,13 +489,16 @@ def reflect(plain, options):
     for thread in threads:
         thread.join()
     links.close_all(accepted)
-    if "--log" in options:
-        write_file(options["--log"], shared.session.encoded())
-    for place in range(len(accepted)):
-        say(f"connection {place} {words[place]}")
-    say(f"entries {len(shared.session.log)} time {shared.session.horizon}")
-    if is_shut(shared):
-        raise croquet.Ended("write-fault", 5)
+    return words
+
+
+def serve_heard(shared, talk, link):
+    """Serves a link once it has given a frame. Gives 0, if it has, and how it ended."""
+    first, word = hear_first(OneLink(link))
+    if first is None:
+        links.close(link)
+        return None, word
+    return 0, serve_link(link, talk(shared, Peeked(link, first)))
 
 
 def serve_link(link, talk):
@@ -535,8 +597,24 @@ def put_hosted(hosted, prefix):
         write_file(f"{prefix}{name}", shared.session.encoded())
 
 
+def host_counted(listener, hosted, count):
+    """Serves so many links. Gives how each ended, by its number."""
+    accepted, ends, threads = [], {}, []
+    while len(accepted) < count:
+        link = links.accept_soon(listener)
+        if link is not None:
+            serve = lambda place, link: ends.update({place: serve_hosted(hosted, link)})
+            threads.append(threading.Thread(target=serve, args=(len(accepted), link)))
+            accepted.append(link)
+            threads[-1].start()
+    for thread in threads:
+        thread.join()
+    links.close_all(accepted)
+    return ends
+
+
 def host(plain, options):
-    count = number(options["--connections"], 1, 65)
+    count, posts, until = span_of(options)
     lines, on_demand = croquet.read_config(read_file(plain[0], "config"))
     sources = {}
     for _, program in lines:
@@ -552,21 +630,17 @@ def host(plain, options):
         tell(f"cannot listen at {plain[1]}: the port is in use")
         raise croquet.Ended("net-fault", 6) from None
     tell(f"listening at {plain[1]}")
-    accepted, ends, threads = [], {}, []
-    while len(accepted) < count:
-        link = links.accept_soon(listener)
-        if link is not None:
-            serve = lambda place, link: ends.update({place: serve_hosted(hosted, link)})
-            threads.append(threading.Thread(target=serve, args=(len(accepted), link)))
-            accepted.append(link)
-            threads[-1].start()
-    for thread in threads:
-        thread.join()
-    links.close_all(accepted)
+    if count is None:
+        ends = serve_by_posts(listener, posts, until, lambda link: serve_hosted(hosted, link))
+    else:
+        ends = host_counted(listener, hosted, count)
     put_hosted(hosted, options["--logs"])
-    for place in range(len(accepted)):
-        session, word = ends[place]
-        say(f"connection {place} session {'none' if session is None else session + 1} {word}")
+    if count is None:
+        say_ways(ends, posts)
+    else:
+        for place in sorted(ends):
+            session, word = ends[place]
+            say(f"connection {place} session {'none' if session is None else session + 1} {word}")
     for place, shared in enumerate(hosted.sessions):
         made = "" if hosted.is_listed(place) else f" id {shared.ident.hex()}"
         say(f"session {place + 1} entries {len(shared.session.log)} time {shared.session.horizon}{made}")

@@ -16,7 +16,7 @@ SEND_SECONDS, CLOSE_SECONDS, PING_SECONDS, PING_QUIETS, NEWS_GAP = 5, 1, 15, 100
 ALIVE = b"\x05"
 ACCEPT_SECONDS = 0.1
 BEGUN = time.monotonic()
-ACCEPTED = []  # all links that were accepted
+ACCEPTED = []  # all links that were accepted and are not closed
 
 
 class Failed(Exception):
@@ -57,7 +57,7 @@ def accept_soon(listener):
 
 def wake(links):
     """Ends the receives of links, those that go on or their next ones."""
-    for link in links:
+    for link in list(links):
         try:
             link.waker.send(b"n")
         except OSError:  # It is woken already, or closed.
@@ -283,7 +283,10 @@ def close_all(links):
                 link.read()
         except (Failed, LinkEnd):
             pass
-        link.socket.close()
+        for end in (link.socket, link.news, link.waker):
+            end.close()
+        if link in ACCEPTED:
+            ACCEPTED.remove(link)
 
 
 def close(link):

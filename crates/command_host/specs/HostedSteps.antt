@@ -6,11 +6,8 @@ use Rattle.text_lines.specs.Lines.{spell_numbers}
 use Rattle.reflector_core.specs.SessionState.{SessionState}
 use Rattle.command_reflect.specs.ReflectedSteps.{end_part}
 use Rattle.host_server.specs.declared.hosting.HostEnd.{HostEnd}
-use Rattle.host_posts.specs.Counts.{no_ends, with_posts}
-use Rattle.host_posts.specs.declared.counting.EndCounts.{EndCounts}
 use Rattle.host_posts.specs.declared.posting.PostOutcome.{PostOutcome}
-use Rattle.command_host.specs.PostsEnded.{no_posts, post_ends}
-use Rattle.command_host.specs.declared.ended.PostEnds.{PostEnds}
+use Rattle.command_posts.specs.PostsText.{posts_lines}
 
 -- the session that served a connection, counted from 1
 abbrev pub session_part : Option ℕ → List ℕ
@@ -53,34 +50,7 @@ session_lines listed number (id ∷ ids) (session ∷ sessions) =
 abbrev pub hosted_text : ℕ → List SessionId → List HostEnd → List SessionState → List ℕ
 hosted_text listed ids ends sessions = connection_lines 0 ends ++ session_lines listed 1 ids sessions
 
--- how many links have ended by their client, or by themselves
-abbrev pub own_ends : EndCounts → List ℕ
-own_ends counts = spell_numbers (codes " left") (counts.left ∷ []) ++ spell_numbers (codes " link-end") (counts.link_end ∷ [])
-    ++ spell_numbers (codes " link-fault") (counts.link_fault ∷ [])
-
--- how many the host has ended by its rules
-abbrev pub rule_ends : EndCounts → List ℕ
-rule_ends counts = spell_numbers (codes " idle") (counts.idle ∷ []) ++ spell_numbers (codes " stale") (counts.stale ∷ [])
-    ++ spell_numbers (codes " refused") (counts.refused ∷ [])
-
--- how many could not be served on, and how many have given no frame, which have ended in one of these ways too
-abbrev pub other_ends : EndCounts → List ℕ
-other_ends counts = spell_numbers (codes " memory") (counts.want_of_memory ∷ [])
-    ++ spell_numbers (codes " unkept") (counts.unkept ∷ []) ++ spell_numbers (codes " silent") (counts.silent ∷ [])
-
--- the line of the links: in which ways they have ended
-abbrev pub links_line : EndCounts → List ℕ
-links_line counts = codes "links" ++ own_ends counts ++ rule_ends counts ++ other_ends counts ++ codes "\n"
-
--- the line of the posts: how many there were, and in which ways they have ended
-abbrev pub posts_line : ℕ → PostEnds → List ℕ
-posts_line count ends = spell_numbers (codes "posts") (count ∷ []) ++ spell_numbers (codes " stopped") (ends.stopped ∷ [])
-    ++ spell_numbers (codes " failed") (ends.failed ∷ []) ++ spell_numbers (codes " memory") (ends.want_of_memory ∷ [])
-    ++ spell_numbers (codes " spent") (ends.spent ∷ []) ++ codes "\n"
-
 -- The text of sessions that posts have hosted, so many of which were listed: the line of the links, that of the posts, and then a line for each
 -- session.
 abbrev pub posts_text : ℕ → List SessionId → List PostOutcome → List SessionState → List ℕ
-posts_text listed ids posts sessions =
-    (links_line (with_posts no_ends posts) ++ posts_line (length posts) (post_ends no_posts posts))
-    ++ session_lines listed 1 ids sessions
+posts_text listed ids posts sessions = posts_lines posts ++ session_lines listed 1 ids sessions

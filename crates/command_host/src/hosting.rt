@@ -6,7 +6,7 @@ ghost use Rattle.id_claims.specs.Ids.{most_ids};
 
 use command_outcome::numbered_name;
 use command_reflect::LogPlace;
-use command_words::HostSpan;
+use command_words::ServingSpan;
 use host_server::SessionIds;
 use id_claims::MOST_IDS;
 use session_log::Room;
@@ -30,7 +30,7 @@ pub struct Hosting {
     /// The address at which the host listens.
     pub address: Text,
     /// How long it serves.
-    pub span: HostSpan,
+    pub span: ServingSpan,
     /// Where each listed session is put in the end.
     pub logs: LogPlaces,
     /// With what the names of the files begin.

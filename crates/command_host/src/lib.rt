@@ -2,11 +2,9 @@
 //! connections ended and what each session has come to.
 #![tactic(auto)]
 
-mod ended;
 mod hosting;
 mod outcome;
 mod text;
 
-pub use ended::posts_fault;
 pub use hosting::{Hosting, LogPlaces, Rooms, log_places, on_demand_places, rooms_for};
 pub use outcome::{hosted_outcome, posts_outcome};

@@ -1,13 +1,12 @@
 //! From how connections ended, and what their sessions have come to, to the text that tells it.
-ghost use Rattle.std.specs.Prelude.{◌≡◌, ◌++◌, string_bytes, IfOk, length};
+ghost use Rattle.std.specs.Prelude.{◌≡◌, string_bytes, IfOk};
 ghost use Rattle.command_reflect.specs.ReflectedSteps.{end_part};
-ghost use Rattle.command_host.specs.PostsEnded.{no_posts, post_ends};
-ghost use Rattle.command_host.specs.HostedSteps.{connection_line, connection_lines, hosted_text, id_part, links_line, made_id, other_ends, own_ends, posts_line, posts_text, rule_ends, session_line, session_lines, session_part};
+ghost use Rattle.command_host.specs.HostedSteps.{connection_line, connection_lines, hosted_text, id_part, made_id, posts_text, session_line, session_lines, session_part};
 
-use crate::ended::{PostEnds, post_ends};
 use command_outcome::line_of_parts;
+use command_posts::posts_lines;
 use connection::Ended;
-use host_posts::{EndCounts, HostedOn, PostOutcome};
+use host_posts::HostedOn;
 use host_server::HostEnd;
 use reflector_core::Session;
 use std::alloc::Global;
@@ -133,81 +132,13 @@ pub fn hosted_text(
     Ok(text)
 }
 
-/// How many links have ended by their client, or by themselves.
-fn own_ends(alloc: Global, counts: EndCounts) -> Result<String, WantOfMemory>
-    ensures { IfOk result (λ text. string_bytes text ≡ own_ends counts) }
-{
-    let mut text = spell_numbers(alloc, " left", &[counts.left])?;
-    text.push_str(spell_numbers(alloc, " link-end", &[counts.link_end])?.as_str())?;
-    text.push_str(spell_numbers(alloc, " link-fault", &[counts.link_fault])?.as_str())?;
-    Ok(text)
-}
-
-/// How many the host has ended by its rules.
-fn rule_ends(alloc: Global, counts: EndCounts) -> Result<String, WantOfMemory>
-    ensures { IfOk result (λ text. string_bytes text ≡ rule_ends counts) }
-{
-    let mut text = spell_numbers(alloc, " idle", &[counts.idle])?;
-    text.push_str(spell_numbers(alloc, " stale", &[counts.stale])?.as_str())?;
-    text.push_str(spell_numbers(alloc, " refused", &[counts.refused])?.as_str())?;
-    Ok(text)
-}
-
-/// How many could not be served on, and how many have given no frame.
-fn other_ends(alloc: Global, counts: EndCounts) -> Result<String, WantOfMemory>
-    ensures { IfOk result (λ text. string_bytes text ≡ other_ends counts) }
-{
-    let mut text = spell_numbers(alloc, " memory", &[counts.want_of_memory])?;
-    text.push_str(spell_numbers(alloc, " unkept", &[counts.unkept])?.as_str())?;
-    text.push_str(spell_numbers(alloc, " silent", &[counts.silent])?.as_str())?;
-    Ok(text)
-}
-
-/// The line of the links.
-fn links_line(alloc: Global, counts: EndCounts) -> Result<String, WantOfMemory>
-    ensures { IfOk result (λ line. string_bytes line ≡ links_line counts) }
-{
-    let mut text = String::from_str(alloc, "links")?;
-    text.push_str(own_ends(alloc, counts)?.as_str())?;
-    text.push_str(rule_ends(alloc, counts)?.as_str())?;
-    line_of_parts(text, other_ends(alloc, counts)?.as_str())
-}
-
-/// The line of so many posts.
-fn posts_line(alloc: Global, count: u64, ends: PostEnds) -> Result<String, WantOfMemory>
-    ensures { IfOk result (λ line. string_bytes line ≡ posts_line count ends) }
-{
-    let mut text = spell_numbers(alloc, "posts", &[count])?;
-    text.push_str(spell_numbers(alloc, " stopped", &[ends.stopped])?.as_str())?;
-    text.push_str(spell_numbers(alloc, " failed", &[ends.failed])?.as_str())?;
-    text.push_str(spell_numbers(alloc, " memory", &[ends.want_of_memory])?.as_str())?;
-    line_of_parts(
-        text,
-        spell_numbers(alloc, " spent", &[ends.spent])?.as_str(),
-    )
-}
-
-/// The line of the links, and that of the posts.
-fn end_lines(
-    alloc: Global,
-    counts: EndCounts,
-    posts: &[PostOutcome],
-) -> Result<String, WantOfMemory>
-    ensures { IfOk result (λ text. string_bytes text ≡ links_line counts ++ posts_line (length posts.now) (post_ends no_posts posts.now)) }
-{
-    let ends = post_ends(posts);
-    let mut text = links_line(alloc, counts)?;
-    text.push_str(posts_line(alloc, posts.len() as u64, ends)?.as_str())?;
-    Ok(text)
-}
-
 /// What is printed of sessions after their posts, so many of which were listed: the line of the links, that of the posts, and then a line for each
 /// session.
 pub fn posts_text(alloc: Global, listed: usize, hosted: &HostedOn) -> Result<String, WantOfMemory>
     ensures { IfOk result (λ text. string_bytes text ≡ posts_text listed hosted.now.ids hosted.now.posts hosted.now.sessions) }
 {
     let (ids, sessions) = (hosted.ids.as_slice(), hosted.sessions.as_slice());
-    let mut text = end_lines(alloc, hosted.counts(), hosted.posts.as_slice())?;
+    let mut text = posts_lines(alloc, hosted.posts.as_slice())?;
     text.push_str(session_lines(alloc, listed, ids, sessions)?.as_str())?;
     Ok(text)
 }

@@ -6,7 +6,9 @@ use Rattle.reflector_core.specs.PlainSession.{PlainSession}
 use Rattle.reflector_core.specs.Stored.{stored_of}
 use Rattle.connection.specs.declared.ending.Ended.{Ended}
 use Rattle.connection.specs.declared.ending.Ended.TheVariants as ended
+use Rattle.host_posts.specs.declared.posting.PostOutcome.{PostOutcome}
 use Rattle.command_outcome.specs.declared.outcome.Put.{Put}
+use Rattle.command_posts.specs.PostsText.{posts_lines}
 use Rattle.command_reflect.specs.declared.reflection.LogPlace.{LogPlace}
 
 -- how a connection has ended, and the value that comes with it
@@ -38,6 +40,10 @@ session_line session =
 -- the text of a session that was reflected: a line for each connection, and then its own
 abbrev pub reflected_text : List Ended → PlainSession → List ℕ
 reflected_text ends session = end_lines 0 ends ++ session_line session
+
+-- the text of a session that posts have reflected: the line of the links, that of the posts, and then its own
+abbrev pub reflected_on_text : List PostOutcome → PlainSession → List ℕ
+reflected_on_text posts session = posts_lines posts ++ session_line session
 
 -- the bytes of a session as it is stored after its reflector
 abbrev pub reflected_bytes : PlainSession → List ℕ

@@ -11,6 +11,7 @@ ghost use Rattle.command_reflect.specs.KeptSteps.{GoesOnFrom, all_zero, going_on
 
 use crate::reflection::LogPlace;
 use command_outcome::{Outcome, Put, Puts};
+use command_words::ServingSpan;
 use session_journal::{JournalFault, Read, read_journal, what_is_read_may_be_opened};
 use session_log::{Kept, LentKept, Stored, encode_stored};
 use std::alloc::Global;
@@ -24,8 +25,8 @@ pub struct Keeping {
     pub id: SessionId,
     /// The address at which its reflector listens.
     pub address: Text,
-    /// How many links it accepts, from 1 to 64.
-    pub connections: u32,
+    /// How long it serves.
+    pub span: ServingSpan,
     /// The file of the journal.
     pub journal: Text,
     /// The log of the session that goes on, where there is no journal yet.

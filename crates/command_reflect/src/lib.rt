@@ -1,5 +1,5 @@
 //! What the command `reflect` asks for and gives: the reflection of a session, what a journal leads to before its session goes on, and after
-//! the reflection first the log, and then how its connections ended.
+//! the reflection first the log, and then how its connections ended, or in which ways links and posts have.
 #![tactic(auto)]
 
 mod keeping;
@@ -7,4 +7,6 @@ mod reflection;
 mod text;
 
 pub use keeping::{GoingOn, Keeping, read_kept};
-pub use reflection::{LogPlace, Reflection, log_place, reflected_outcome, reflected_put};
+pub use reflection::{
+    LogPlace, Reflection, log_place, reflected_on_outcome, reflected_outcome, reflected_put,
+};

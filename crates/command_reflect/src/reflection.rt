@@ -2,11 +2,13 @@
 ghost use Rattle.std.specs.Prelude.{◌≡◌, [], ◌∷◌, IfOk};
 ghost use Rattle.run_steps.specs.Steps.{Prints};
 ghost use Rattle.command_outcome.specs.Outcome.{steps_of};
-ghost use Rattle.command_reflect.specs.ReflectedSteps.{log_name, reflected_put, reflected_text};
+ghost use Rattle.command_reflect.specs.ReflectedSteps.{log_name, reflected_on_text, reflected_put, reflected_text};
 
-use crate::text::reflected_text;
+use crate::text::{reflected_on_text, reflected_text};
 use command_outcome::{Outcome, Put, Puts};
+use command_words::ServingSpan;
 use connection::Ended;
+use host_posts::PostOutcome;
 use reflector_core::Session;
 use session_log::Room;
 use std::alloc::Global;
@@ -31,8 +33,8 @@ pub struct Reflection {
     pub opening: Session,
     /// The address at which its reflector listens.
     pub address: Text,
-    /// How many links it accepts, from 1 to 64.
-    pub connections: u32,
+    /// How long it serves.
+    pub span: ServingSpan,
     /// Where the session is put in the end.
     pub log: Option<LogPlace>,
 }
@@ -72,6 +74,22 @@ pub fn reflected_outcome(
         ≡ Prints (reflected_text ends.now session.now.plain) ∷ []) }
 {
     let text = reflected_text(alloc, ends, session)?;
+    Ok(Outcome {
+        files: Puts::new(alloc),
+        text: Blob::from_vec(text.into_bytes()),
+    })
+}
+
+/// What is printed of a session after its posts: in which ways links and posts have ended, and what it has come to.
+pub fn reflected_on_outcome(
+    alloc: Global,
+    posts: &[PostOutcome],
+    session: &Session,
+) -> Result<Outcome, WantOfMemory>
+    ensures { IfOk result (λ outcome. steps_of outcome.files outcome.text
+        ≡ Prints (reflected_on_text posts.now session.now.plain) ∷ []) }
+{
+    let text = reflected_on_text(alloc, posts, session)?;
     Ok(Outcome {
         files: Puts::new(alloc),
         text: Blob::from_vec(text.into_bytes()),

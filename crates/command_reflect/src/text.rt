@@ -1,9 +1,11 @@
 //! From how connections ended, and what their session has come to, to the text that tells it.
 ghost use Rattle.std.specs.Prelude.{◌≡◌, string_bytes, IfOk};
-ghost use Rattle.command_reflect.specs.ReflectedSteps.{end_part, end_line, end_lines, session_line, reflected_text};
+ghost use Rattle.command_reflect.specs.ReflectedSteps.{end_part, end_line, end_lines, session_line, reflected_on_text, reflected_text};
 
 use command_outcome::line_of_parts;
+use command_posts::posts_lines;
 use connection::Ended;
+use host_posts::PostOutcome;
 use reflector_core::Session;
 use std::alloc::Global;
 use tea_base::WantOfMemory;
@@ -65,5 +67,19 @@ pub fn reflected_text(
 {
     let mut text = end_lines(alloc, ends)?;
     text.push_str(session_line(alloc, session)?.as_str())?;
+    Ok(text)
+}
+
+/// What is printed of a session after its posts: the line of the links, that of the posts, and then its own.
+pub fn reflected_on_text(
+    alloc: Global,
+    posts: &[PostOutcome],
+    session: &Session,
+) -> Result<String, WantOfMemory>
+    ensures { IfOk result (λ text. string_bytes text ≡ reflected_on_text posts.now session.now.plain) }
+{
+    let mut text = posts_lines(alloc, posts)?;
+    let line = session_line(alloc, session)?;
+    text.push_str(line.as_str())?;
     Ok(text)
 }

@@ -8,8 +8,8 @@ use Rattle.command_words.specs.declared.words.TraceRequest.{TraceRequest}
 use Rattle.command_words.specs.declared.words.JoinRequest.{JoinRequest}
 use Rattle.command_words.specs.declared.words.LiveRequest.{LiveRequest}
 use Rattle.command_words.specs.declared.words.ReflectRequest.{ReflectRequest}
-use Rattle.command_words.specs.declared.words.HostSpan.{HostSpan}
-use Rattle.command_words.specs.declared.words.HostSpan.TheVariants as host_span
+use Rattle.command_words.specs.declared.words.ServingSpan.{ServingSpan}
+use Rattle.command_words.specs.declared.words.ServingSpan.TheVariants as serving_span
 use Rattle.command_words.specs.declared.words.HostRequest.{HostRequest}
 use Rattle.command_words.specs.declared.words.DrillRequest.{DrillRequest}
 use Rattle.command_words.specs.declared.words.Command.{Command}
@@ -48,14 +48,14 @@ IsBoundedLive request = (length (encode_utf8_all request.name) ≤ most_name) ×
 abbrev pub AreConnections : ℕ → Type 0
 AreConnections count = (1 ≤ count) × (count ≤ most_connections)
 
--- a reflect has a name of at most so many bytes too, and so many connections
-abbrev pub IsBoundedReflect : ReflectRequest → Type 0
-IsBoundedReflect request = (length (encode_utf8_all request.name) ≤ most_name) × AreConnections request.connections
+-- so many links are accepted, or there are so many posts
+abbrev pub IsBoundedSpan : ServingSpan → Type 0
+IsBoundedSpan (serving_span.Connections count) = AreConnections count
+IsBoundedSpan (serving_span.Posts links until) = AreConnections links
 
--- a host accepts so many links, or has so many posts
-abbrev pub IsBoundedSpan : HostSpan → Type 0
-IsBoundedSpan (host_span.Connections count) = AreConnections count
-IsBoundedSpan (host_span.Posts links until) = AreConnections links
+-- a reflect has a name of at most so many bytes too, and serves so long
+abbrev pub IsBoundedReflect : ReflectRequest → Type 0
+IsBoundedReflect request = (length (encode_utf8_all request.name) ≤ most_name) × IsBoundedSpan request.span
 
 -- a host serves so long
 abbrev pub IsBoundedHost : HostRequest → Type 0

@@ -1,5 +1,5 @@
 -- What the words of the command line ask for: a row for each command. A word is seen as its characters.
-use Rattle.std.specs.Prelude.{ℕ, Bool, ◌||◌, is_some, if◌then◌else◌, nat_le, length, encode_utf8_all, List, [], ◌∷◌, Option, Some, None, option_and_then, codes}
+use Rattle.std.specs.Prelude.{ℕ, Bool, ◌||◌, is_some, if◌then◌else◌, nat_le, length, encode_utf8_all, List, [], ◌∷◌, Option, Some, None, option_and_then, option_map, codes}
 use Rattle.std.specs.Str.{bytes_eq}
 use Rattle.run_steps.specs.Limits.{most_connections, most_drill_events, most_drill_views}
 use Rattle.text_lines.specs.Lines.{LineWord, number_of_word, time_of_word}
@@ -9,8 +9,8 @@ use Rattle.command_words.specs.declared.words.TraceRequest.{TraceRequest}
 use Rattle.command_words.specs.declared.words.JoinRequest.{JoinRequest}
 use Rattle.command_words.specs.declared.words.LiveRequest.{LiveRequest}
 use Rattle.command_words.specs.declared.words.ReflectRequest.{ReflectRequest}
-use Rattle.command_words.specs.declared.words.HostSpan.{HostSpan}
-use Rattle.command_words.specs.declared.words.HostSpan.TheVariants as host_span
+use Rattle.command_words.specs.declared.words.ServingSpan.{ServingSpan}
+use Rattle.command_words.specs.declared.words.ServingSpan.TheVariants as serving_span
 use Rattle.command_words.specs.declared.words.Command.{Command}
 use Rattle.command_words.specs.declared.words.Command.TheVariants.{Stamp, Check, Replay, Inspect, Trace, Votes, Hub, Join, Live, Reflect, Host, Drill}
 use Rattle.command_words.specs.Parts.{Parts, all_parts, are_all_taken, behind_first, without_option, first_positional, has_dash, value_of}
@@ -60,12 +60,6 @@ abbrev pub value_or : {A : Type 0} → A → (LineWord → Option A) → Option 
 value_or default such None = Some default
 value_or default such (Some word) = such word
 
--- an option that stands at most once, whose value is such a word; where it does not stand, this is its value
-abbrev pub preset : {A : Type 0} → LineWord → A → (LineWord → Option A) → (A → Reading) → Reading
-preset option default such rest parts =
-    option_and_then (λ found. rest found (without_option option parts))
-    (value_or default such (value_of option parts))
-
 -- an option that stands at most once
 abbrev pub free : LineWord → (Option LineWord → Reading) → Reading
 free option rest parts = rest (value_of option parts) (without_option option parts)
@@ -77,6 +71,37 @@ asks command parts = if are_all_taken parts then Some command else None
 -- the name of a command, and what is made of the words after it
 abbrev pub Row : Type 0
 Row = LineWord × Reading
+
+-- ---- how long links are served
+
+-- `[--links P] [--until FILE]`; without `--links` there are as many posts as there may be
+abbrev pub posts_span : Parts → Option ServingSpan
+posts_span parts =
+    option_map (λ links. serving_span.Posts links (value_of (codes "--until") (without_option (codes "--links") parts)))
+    (value_or most_connections (a_number 1 most_connections) (value_of (codes "--links") parts))
+
+abbrev pub behind_posts : Parts → Parts
+behind_posts parts = without_option (codes "--until") (without_option (codes "--links") parts)
+
+-- what is said where `--connections` has this value, or does not stand
+abbrev pub span_by : Option LineWord → Parts → Option ServingSpan
+span_by None parts = posts_span parts
+span_by (Some word) parts = option_map serving_span.Connections (a_number 1 most_connections word)
+
+abbrev pub behind_by : Option LineWord → Parts → Parts
+behind_by None parts = behind_posts parts
+behind_by (Some word) parts = parts
+
+-- `--connections N`, or `[--links P] [--until FILE]`
+abbrev pub span_of : Parts → Option ServingSpan
+span_of parts = span_by (value_of (codes "--connections") parts) (without_option (codes "--connections") parts)
+
+abbrev pub behind_span : Parts → Parts
+behind_span parts = behind_by (value_of (codes "--connections") parts) (without_option (codes "--connections") parts)
+
+-- this span, and then the rest of the row
+abbrev pub spanned : (ServingSpan → Reading) → Reading
+spanned rest parts = option_and_then (λ span. rest span (behind_span parts)) (span_of parts)
 
 -- ---- the table
 
@@ -213,17 +238,17 @@ reflect_options request =
     free (codes "--persisted") (λ persisted.
     free (codes "--from") (λ from. reflect_files (record request { persisted = persisted; from = from })))
 
--- `--connections N`, and what else may be said
+-- how long it serves, and what else may be said
 abbrev pub reflect_ends : LineWord → LineWord → LineWord → Reading
 reflect_ends program name address =
-    needed (codes "--connections") (a_number 1 most_connections) (λ connections.
+    spanned (λ span.
     reflect_options (record {
       program = program;
       name = name;
       address = address;
       persisted = None;
       from = None;
-      connections = connections;
+      span = span;
       journal = None;
       log = None;
     }))
@@ -236,35 +261,17 @@ reflect_row = (
       positional a_name (λ name. positional a_word (λ address. reflect_ends program name address))),
 )
 
--- `--logs PREFIX`
-abbrev pub host_logs : LineWord → LineWord → HostSpan → Reading
-host_logs config address span =
-    needed (codes "--logs") a_word (λ logs.
-    asks (Host (record { config = config; address = address; span = span; logs = logs })))
+-- how long it serves, and `--logs PREFIX`
+abbrev pub host_ends : LineWord → LineWord → Reading
+host_ends config address =
+    spanned (λ span. needed (codes "--logs") a_word (λ logs.
+    asks (Host (record { config = config; address = address; span = span; logs = logs }))))
 
--- the value of `--connections`, and the other option
-abbrev pub host_counted : LineWord → LineWord → LineWord → Reading
-host_counted config address word parts =
-    option_and_then (λ count. host_logs config address (host_span.Connections count) parts)
-    (a_number 1 most_connections word)
-
--- `[--links P] [--until FILE]`, and the other option; without `--links` there are as many posts as there may be
-abbrev pub host_posts : LineWord → LineWord → Reading
-host_posts config address =
-    preset (codes "--links") most_connections (a_number 1 most_connections) (λ links.
-    free (codes "--until") (λ until. host_logs config address (host_span.Posts links until)))
-
--- what may be said where `--connections` has this value, or does not stand
-abbrev pub host_options : LineWord → LineWord → Option LineWord → Reading
-host_options config address None = host_posts config address
-host_options config address (Some word) = host_counted config address word
-
--- `host CONFIG ADDRESS`, and `--connections N` or `[--links P] [--until FILE]`, and `--logs PREFIX`
+-- `host CONFIG ADDRESS`, and its options
 abbrev pub host_row : Row
 host_row = (
   codes "host",
-  positional a_word (λ config.
-      positional a_word (λ address. free (codes "--connections") (host_options config address))),
+  positional a_word (λ config. positional a_word (λ address. host_ends config address)),
 )
 
 -- `drill SEED VIEWS EVENTS --log FILE --snapshots PREFIX`

@@ -8,6 +8,6 @@ mod words;
 
 pub use address::is_address;
 pub use words::{
-    Command, DrillRequest, HostRequest, HostSpan, InspectRequest, JoinRequest, LiveRequest,
-    ReflectRequest, ReplayRequest, TraceRequest, read_command,
+    Command, DrillRequest, HostRequest, InspectRequest, JoinRequest, LiveRequest, ReflectRequest,
+    ReplayRequest, ServingSpan, TraceRequest, read_command,
 };

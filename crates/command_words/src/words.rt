@@ -4,7 +4,7 @@ ghost use Rattle.std.specs.Option.{option_and_then};
 ghost use Rattle.run_steps.specs.Limits.{most_connections};
 ghost use Rattle.tea_base.specs.Limits.{time_limit};
 ghost use Rattle.command_words.specs.Parts.{behind_first, first_positional};
-ghost use Rattle.command_words.specs.CommandWords.{a_name, a_number, a_time, asks, check_row, command_of, drill_row, host_counted, host_logs, host_posts, host_row, hub_row, inspect_options, inspect_row, join_row, join_ends, join_options, live_options, most_name, read_by, reflect_files, reflect_options, reflect_row, replay_options, replay_puts, replay_row, rows, stamp_row, reflect_ends, trace_options, trace_row, value_or, votes_row};
+ghost use Rattle.command_words.specs.CommandWords.{a_name, a_number, a_time, asks, check_row, command_of, drill_row, host_ends, host_row, hub_row, inspect_options, inspect_row, join_row, join_ends, join_options, live_options, most_name, behind_posts, behind_span, posts_span, read_by, reflect_files, reflect_options, reflect_row, replay_options, replay_puts, replay_row, rows, stamp_row, reflect_ends, span_of, trace_options, trace_row, value_or, votes_row};
 ghost use Rattle.command_words.specs.Bounds.{AreConnections, IsBounded, IsBoundedInspect, IsBoundedJoin, IsBoundedLive, IsBoundedReflect, IsBoundedSpan, IsWithinBounds, IsBoundedTrace};
 
 use crate::parts::{Parts, is_word, read_parts};
@@ -51,8 +51,8 @@ pub enum Command {
     Join(JoinRequest),
     /// `join PROGRAM NAME ADDRESS VIEW - [--persisted JSON]`
     Live(LiveRequest),
-    /// `reflect PROGRAM NAME ADDRESS [--persisted JSON] [--from LOG] [--journal FILE] [--log FILE] --connections N`, with a journal or a
-    /// log at least
+    /// `reflect PROGRAM NAME ADDRESS [--persisted JSON] [--from LOG] [--journal FILE] [--log FILE]`, with a journal or a log at least, and either
+    /// `--connections N`, or `[--links P] [--until FILE]`
     Reflect(ReflectRequest),
     /// `host CONFIG ADDRESS --logs PREFIX`, and either `--connections N`, or `[--links P] [--until FILE]`
     Host(HostRequest),
@@ -136,6 +136,19 @@ pub struct LiveRequest {
     pub persisted: Option<Text>,
 }
 
+/// How long a reflector or a host serves.
+#[derive(Drop)]
+pub enum ServingSpan {
+    /// Until it has accepted so many links, from 1 to 64, and all of them have ended.
+    Connections(u32),
+    /// Without an end that is counted: so many posts, from 1 to 64, take one link after the other.
+    Posts {
+        links: u32,
+        /// The file whose being there ends it. Where none is named, it goes on until it is killed.
+        until: Option<Text>,
+    },
+}
+
 /// What a reflector is asked for.
 #[derive(Drop)]
 pub struct ReflectRequest {
@@ -147,25 +160,12 @@ pub struct ReflectRequest {
     pub persisted: Option<Text>,
     /// The log of the session that goes on.
     pub from: Option<Text>,
-    /// How many links it accepts, from 1 to 64.
-    pub connections: u32,
+    /// How long it serves.
+    pub span: ServingSpan,
     /// The journal of the session, which goes on from there if it is there.
     pub journal: Option<Text>,
     /// Where the log of the session is put in the end.
     pub log: Option<Text>,
-}
-
-/// How long a host serves.
-#[derive(Drop)]
-pub enum HostSpan {
-    /// Until it has accepted so many links, from 1 to 64, and all of them have ended.
-    Connections(u32),
-    /// Without an end that is counted: so many posts, from 1 to 64, take one link after the other.
-    Posts {
-        links: u32,
-        /// The file whose being there ends it. Where none is named, it goes on until it is killed.
-        until: Option<Text>,
-    },
 }
 
 /// What a host of many sessions is asked for.
@@ -175,7 +175,7 @@ pub struct HostRequest {
     pub config: Text,
     pub address: Text,
     /// How long it serves.
-    pub span: HostSpan,
+    pub span: ServingSpan,
     /// Where its sessions are put in the end: each name is this, and then the number of the session.
     pub logs: Text,
 }
@@ -243,6 +243,44 @@ fn next_time(parts: &mut Parts) -> Option<u64>
     ensures bounds { IfSome result (λ time. time < time_limit) }
 {
     time_of_word(parts.positional()?.as_str())
+}
+
+/// The number that the value of an option spells, or the greatest one where the option does not stand.
+fn count_or_most(word: Option<Text>) -> Option<u32>
+    ensures read { result ≡ value_or most_connections (a_number 1 most_connections) word }
+    ensures bounds { IfSome result AreConnections }
+{
+    match word {
+        Some(word) => number_within(&word, 1, MOST_CONNECTIONS),
+        None => Some(MOST_CONNECTIONS),
+    }
+}
+
+/// `[--links P] [--until FILE]`
+fn posts_span(parts: &mut Parts) -> Option<ServingSpan>
+    ensures read { result ≡ posts_span parts.old }
+    ensures rest { parts.new ≡ behind_posts parts.old }
+    ensures bounds { IfSome result IsBoundedSpan }
+{
+    let links = parts.option("--links");
+    let until = parts.option("--until");
+    let links = count_or_most(links)?;
+    Some(ServingSpan::Posts { links, until })
+}
+
+/// `--connections N`, or `[--links P] [--until FILE]`
+fn serving_span(parts: &mut Parts) -> Option<ServingSpan>
+    ensures read { result ≡ span_of parts.old }
+    ensures rest { parts.new ≡ behind_span parts.old }
+    ensures bounds { IfSome result IsBoundedSpan }
+{
+    match parts.option("--connections") {
+        Some(word) => {
+            let count = number_within(&word, 1, MOST_CONNECTIONS)?;
+            Some(ServingSpan::Connections(count))
+        }
+        None => posts_span(parts),
+    }
 }
 
 /// The command, if no other word stands.
@@ -503,20 +541,20 @@ fn reflect_options(mut parts: Parts, mut request: ReflectRequest) -> Option<Comm
     reflect_files(parts, request)
 }
 
-/// The options of `reflect`: `--connections N`, and what it may be told
+/// The options of `reflect`: how long it serves, and what it may be told
 fn reflect_ends(mut parts: Parts, program: Text, name: Text, address: Text) -> Option<Command>
     requires { length (encode_utf8_all name) ≤ most_name }
     ensures read { result ≡ reflect_ends program name address parts }
     ensures bounds { IfSome result IsWithinBounds }
 {
-    let connections = number_within(&parts.option("--connections")?, 1, MOST_CONNECTIONS)?;
+    let span = serving_span(&mut parts)?;
     let request = ReflectRequest {
         program,
         name,
         address,
         persisted: None,
         from: None,
-        connections,
+        span,
         journal: None,
         log: None,
     };
@@ -534,12 +572,12 @@ fn reflect(mut parts: Parts) -> Option<Command>
     reflect_ends(parts, program, name, address)
 }
 
-/// The last option of `host`: `--logs PREFIX`
-fn host_logs(mut parts: Parts, config: Text, address: Text, span: HostSpan) -> Option<Command>
-    requires { IsBoundedSpan span }
-    ensures read { result ≡ host_logs config address span parts }
+/// The options of `host`: how long it serves, and `--logs PREFIX`
+fn host_ends(mut parts: Parts, config: Text, address: Text) -> Option<Command>
+    ensures read { result ≡ host_ends config address parts }
     ensures bounds { IfSome result IsWithinBounds }
 {
+    let span = serving_span(&mut parts)?;
     let logs = parts.option("--logs")?;
     let request = HostRequest {
         config,
@@ -550,37 +588,6 @@ fn host_logs(mut parts: Parts, config: Text, address: Text, span: HostSpan) -> O
     ask(Command::Host(request), &parts)
 }
 
-/// The number that the value of an option spells, or the greatest one where the option does not stand.
-fn count_or_most(word: Option<Text>) -> Option<u32>
-    ensures read { result ≡ value_or most_connections (a_number 1 most_connections) word }
-    ensures bounds { IfSome result AreConnections }
-{
-    match word {
-        Some(word) => number_within(&word, 1, MOST_CONNECTIONS),
-        None => Some(MOST_CONNECTIONS),
-    }
-}
-
-/// The options of `host` without `--connections`: `[--links P] [--until FILE]`, and the other one
-fn host_posts(mut parts: Parts, config: Text, address: Text) -> Option<Command>
-    ensures read { result ≡ host_posts config address parts }
-    ensures bounds { IfSome result IsWithinBounds }
-{
-    let links = count_or_most(parts.option("--links"))?;
-    let until = parts.option("--until");
-    let span = HostSpan::Posts { links, until };
-    host_logs(parts, config, address, span)
-}
-
-/// The options of `host` where `--connections` has this value
-fn host_counted(parts: Parts, config: Text, address: Text, word: Text) -> Option<Command>
-    ensures read { result ≡ host_counted config address word parts }
-    ensures bounds { IfSome result IsWithinBounds }
-{
-    let count = number_within(&word, 1, MOST_CONNECTIONS)?;
-    host_logs(parts, config, address, HostSpan::Connections(count))
-}
-
 /// `host CONFIG ADDRESS`, and its options
 fn host(mut parts: Parts) -> Option<Command>
     ensures read { result ≡ host_row.1 parts }
@@ -588,10 +595,7 @@ fn host(mut parts: Parts) -> Option<Command>
 {
     let config = parts.positional()?;
     let address = parts.positional()?;
-    match parts.option("--connections") {
-        Some(word) => host_counted(parts, config, address, word),
-        None => host_posts(parts, config, address),
-    }
+    host_ends(parts, config, address)
 }
 
 /// `drill SEED VIEWS EVENTS --log FILE --snapshots PREFIX`

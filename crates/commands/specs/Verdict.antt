@@ -42,7 +42,7 @@ use Rattle.command_words.specs.declared.words.JoinRequest.{JoinRequest}
 use Rattle.command_words.specs.declared.words.LiveRequest.{LiveRequest}
 use Rattle.command_words.specs.declared.words.ReflectRequest.{ReflectRequest}
 use Rattle.command_words.specs.declared.words.HostRequest.{HostRequest}
-use Rattle.command_words.specs.declared.words.HostSpan.{HostSpan}
+use Rattle.command_words.specs.declared.words.ServingSpan.{ServingSpan}
 use Rattle.command_words.specs.declared.words.DrillRequest.{DrillRequest}
 use Rattle.command_words.specs.declared.words.Command.{Command}
 use Rattle.command_words.specs.declared.words.Command.TheVariants.{Stamp, Check, Replay, Inspect, Trace, Votes, Hub, Join, Live, Reflect, Host, Drill}
@@ -64,7 +64,7 @@ use Rattle.command_hub.specs.declared.script.HubLine.{HubLine}
 use Rattle.command_hub.specs.HubScript.{hub_script_of}
 use Rattle.command_hub.specs.HubRun.{hub_steps}
 use Rattle.command_outcome.specs.declared.outcome.Put.{Put}
-use Rattle.command_reflect.specs.ReflectedSteps.{reflected_bytes, reflected_text}
+use Rattle.command_reflect.specs.ReflectedSteps.{reflected_bytes, reflected_on_text, reflected_text}
 use Rattle.host_config.specs.Config.{config_of}
 use Rattle.host_config.specs.Programs.{programs_of}
 use Rattle.host_config.specs.declared.reading.Config.{Config}
@@ -72,7 +72,7 @@ use Rattle.host_config.specs.declared.reading.SessionLine.{SessionLine}
 use Rattle.host_server.specs.declared.hosting.HostEnd.{HostEnd}
 use Rattle.command_host.specs.Hosting.{numbered_names, on_demand_names, session_puts}
 use Rattle.command_host.specs.HostedSteps.{hosted_text, posts_text}
-use Rattle.command_host.specs.PostsEnded.{posts_fault}
+use Rattle.command_posts.specs.PostsEnded.{posts_fault}
 use Rattle.host_posts.specs.declared.posting.PostOutcome.{PostOutcome}
 use Rattle.commands.specs.declared.hosting.ReadProgram.{ReadProgram}
 use Rattle.command_drill.specs.DrilledSteps.{drilled_steps}
@@ -94,21 +94,21 @@ pub record PlainLive : Type 0 where
   pub view : ℕ
   pub address : List ℕ
 
--- what a reflector serves: the session's id, the session that goes on, the address, how many links it accepts, and where it puts the session, if
--- there is a name for that
+-- what a reflector serves: the session's id, the session that goes on, the address, how long it serves, and where it puts the session, if there is a
+-- name for that
 pub record PlainReflection : Type 0 where
   pub id : List ℕ
   pub opening : PlainSession
   pub address : List ℕ
-  pub connections : ℕ
+  pub span : ServingSpan
   pub log : Option (List ℕ)
 
--- what a reflector keeps: the session's id, the address, how many links it accepts, the file of the journal, the log of the session that goes on
--- where there is no journal yet, what the journal is founded with once that is known, and where it puts the session, if there is a name for that
+-- what a reflector keeps: the session's id, the address, how long it serves, the file of the journal, the log of the session that goes on where there
+-- is no journal yet, what the journal is founded with once that is known, and where it puts the session, if there is a name for that
 pub record PlainKeeping : Type 0 where
   pub id : List ℕ
   pub address : List ℕ
-  pub connections : ℕ
+  pub span : ServingSpan
   pub journal : List ℕ
   pub from : Option (List ℕ)
   pub opening : Option PlainStored
@@ -120,7 +120,7 @@ pub record PlainHosting : Type 0 where
   pub ids : List SessionId
   pub on_demand : Bool
   pub address : List ℕ
-  pub span : HostSpan
+  pub span : ServingSpan
   pub logs : List (List ℕ)
   pub prefix : List ℕ
 
@@ -493,7 +493,7 @@ reflection_of request id opening =
       id = id;
       opening = opening;
       address = request.address;
-      connections = request.connections;
+      span = request.span;
       log = request.log;
     }
 
@@ -503,7 +503,7 @@ keeping_of request id journal =
     record {
       id = id;
       address = request.address;
-      connections = request.connections;
+      span = request.span;
       journal = journal;
       from = request.from;
       opening = None;
@@ -563,6 +563,15 @@ OfPut (Some name) session next = Then (Puts name (reflected_bytes session)) next
 -- What comes of a session after its reflector. It is put first, and want of memory comes in place of no put. Then its text is printed, and only that may want memory.
 abbrev pub OfEnds : Option (List ℕ) → List Ended → PlainSession → Bool → Option NetFault → Coming
 OfEnds log ends session unkept stopped = OfPut log session (Free (Only (reflected_verdict ends session unkept stopped)))
+
+-- the text of a session that posts have reflected is printed
+abbrev pub reflected_on_verdict : List PostOutcome → PlainSession → Bool → Verdict
+reflected_on_verdict posts session unkept =
+    record { steps = Prints (reflected_on_text posts session) ∷ []; closing = reflected_closing unkept (posts_fault posts) }
+
+-- what comes of a session after its posts: it is put first, and then its text is printed
+abbrev pub OfEndsOn : Option (List ℕ) → List PostOutcome → PlainSession → Bool → Coming
+OfEndsOn log posts session unkept = OfPut log session (Free (Only (reflected_on_verdict posts session unkept)))
 
 -- ---- host
 

@@ -44,7 +44,7 @@ use Rattle.view_script.specs.ViewScript.{view_script_of}
 use Rattle.commands.specs.declared.work.Next.{Next}
 use Rattle.commands.specs.declared.work.Next.TheVariants as next
 use Rattle.view_script.specs.PlainLine.{plain_lines}
-use Rattle.command_words.specs.Bounds.{AreConnections, IsBounded, IsBoundedDrill, IsBoundedHost, IsBoundedInspect, IsBoundedJoin, IsBoundedLive, IsBoundedReflect, IsBoundedSpan, IsBoundedTrace}
+use Rattle.command_words.specs.Bounds.{IsBounded, IsBoundedDrill, IsBoundedHost, IsBoundedInspect, IsBoundedJoin, IsBoundedLive, IsBoundedReflect, IsBoundedSpan, IsBoundedTrace}
 use Rattle.command_outcome.specs.Outcome.{steps_of}
 use Rattle.commands.specs.Keeping.{OfFoundingLog}
 use Rattle.commands.specs.Verdict.{Verdict, PlainHosting, PlainKeeping, PlainLive, PlainReflection, PlainVisit, ByDrill, ByKeeping, ByLive, ByRefusal, ByVisit, ByWant, Coming, Only, OfConfig, OfFile, OfFounded, OfHostPrograms, OfHostReady, OfHubScript, OfInspect, OfJoin, OfJson, OfLive, OfTimeLine, OfInspectedLog, OfProgram, OfQueries, OfLog, OfRecorded, OfReflect, OfReflected, OfScript, OfServed, OfSnapshot, OfTree, PlainSource, OfViewScript, ask_file, at_once, count_verdict, fine, founded, keeps_few, live_of, most_config, most_log, most_queries, most_script, session_id_of, stamp_verdict, visit_to, OfTrace, OfTraced, OfTracedLog, votes_verdict, OfReady}
@@ -152,7 +152,7 @@ abbrev pub plain_keeping : Keeping → PlainKeeping
 plain_keeping keeping = record {
   id = keeping.id.0;
   address = keeping.address;
-  connections = keeping.connections;
+  span = keeping.span;
   journal = keeping.journal;
   from = keeping.from;
   opening = plain_opening keeping.opening;
@@ -164,9 +164,9 @@ abbrev pub IsOpening : Option Stored → Type 0
 IsOpening None = ⊤
 IsOpening (Some stored) = IsStored (plain_stored stored)
 
--- it accepts from 1 to the most links
+-- it serves so long as it may
 abbrev pub IsBoundedKeeping : Keeping → Type 0
-IsBoundedKeeping keeping = AreConnections keeping.connections × IsOpening keeping.opening
+IsBoundedKeeping keeping = IsBoundedSpan keeping.span × IsOpening keeping.opening
 
 -- what comes of its bytes
 abbrev pub next_of : Waiting → List ℕ → Coming
@@ -285,7 +285,7 @@ IsBoundedWait (waiting.Live (live_wait.Value wait)) = IsBoundedLive wait.read.re
 IsBoundedWait (waiting.Reflect (reflect_wait.Program request)) = IsBoundedReflect request
 IsBoundedWait (waiting.Reflect (reflect_wait.Value wait)) = IsBoundedReflect wait.request
 IsBoundedWait (waiting.Reflect (reflect_wait.Log wait)) = IsBoundedReflect wait.request
-IsBoundedWait (waiting.Reflect (reflect_wait.Founding wait)) = AreConnections wait.keeping.connections
+IsBoundedWait (waiting.Reflect (reflect_wait.Founding wait)) = IsBoundedSpan wait.keeping.span
 IsBoundedWait (waiting.Host (host_wait.Config request)) = IsBoundedHost request
 IsBoundedWait (waiting.Host (host_wait.Program wait)) = IsBoundedHostWait wait
 
@@ -314,7 +314,7 @@ plain_reflection reflection = record {
   id = reflection.id.0;
   opening = reflection.opening.plain;
   address = reflection.address;
-  connections = reflection.connections;
+  span = reflection.span;
   log = log_name reflection.log;
 }
 
@@ -376,7 +376,7 @@ abbrev pub IsBoundedNext : Next → Type 0
 IsBoundedNext (next.Reads wait) = IsBoundedWait wait
 IsBoundedNext (next.Visits request) = 1 ≤ request.view
 IsBoundedNext (next.Lives start) = 1 ≤ start.view
-IsBoundedNext (next.Reflects reflection) = AreConnections reflection.connections
+IsBoundedNext (next.Reflects reflection) = IsBoundedSpan reflection.span
 IsBoundedNext (next.Keeps keeping) = IsBoundedKeeping keeping
 IsBoundedNext (next.Hosts hosting) = IsBoundedHosting hosting
 IsBoundedNext (next.Drills request) = IsBoundedDrill request

@@ -1,6 +1,6 @@
 //! What comes of the files that the command `reflect` reads, but for its journal.
 ghost use Rattle.std.specs.Prelude.{◌≡◌, ◌<◌, IfOk};
-ghost use Rattle.command_words.specs.Bounds.{AreConnections, IsBoundedReflect};
+ghost use Rattle.command_words.specs.Bounds.{IsBoundedReflect, IsBoundedSpan};
 ghost use Rattle.model_value.specs.Plain.{InBounds};
 ghost use Rattle.model_value.specs.View.{plain};
 ghost use Rattle.session_log.specs.Stored.{IsStored, plain_stored};
@@ -73,7 +73,7 @@ fn reflect(alloc: Global, request: ReflectRequest, id: SessionId, opening: Sessi
             id,
             opening,
             address: request.address,
-            connections: request.connections,
+            span: request.span,
             log,
         }),
         Err(WantOfMemory) => Next::WantOfMemory,
@@ -91,7 +91,7 @@ fn keep(alloc: Global, request: ReflectRequest, id: SessionId, journal: Text) ->
         Ok(log) => Next::Keeps(Keeping {
             id,
             address: request.address,
-            connections: request.connections,
+            span: request.span,
             journal,
             from: request.from,
             opening: None,
@@ -131,7 +131,7 @@ fn open(alloc: Global, mut request: ReflectRequest, id: SessionId) -> Next
 
 /// The journal is to be founded with this.
 fn found_with(mut keeping: Keeping, stored: Stored) -> Next
-    requires links { AreConnections keeping.connections }
+    requires span { IsBoundedSpan keeping.span }
     requires stored { IsStored (plain_stored stored) }
     ensures leads { Leads result
         (Only (at_once (ByKeeping (founded_with (plain_keeping keeping) (plain_stored stored))))) }
@@ -145,7 +145,7 @@ fn found_with(mut keeping: Keeping, stored: Stored) -> Next
 
 /// What comes of a journal that is not there and was not founded: it is founded with a first session, or with the one of a log.
 pub fn found_journal(alloc: Global, mut keeping: Keeping) -> Next
-    requires { AreConnections keeping.connections }
+    requires { IsBoundedSpan keeping.span }
     ensures leads { Leads result (OfFounding keeping.from (plain_keeping keeping)) }
     ensures bounded { IsBoundedNext result }
     ensures fewer { reads_left result < 2 }
@@ -292,7 +292,7 @@ fn take_log(alloc: Global, wait: ReflectLogWait, bytes: &[u8]) -> Next
 
 /// What comes of what a log holds: a journal is founded with it, if it is of the session.
 fn found_log(keeping: Keeping, source: Source) -> Next
-    requires links { AreConnections keeping.connections }
+    requires span { IsBoundedSpan keeping.span }
     requires stored { IsStored (plain_stored source.stored) }
     ensures leads { Leads result (OfFoundingLog (plain_keeping keeping) (plain_source source)) }
     ensures bounded { IsBoundedNext result }
@@ -306,7 +306,7 @@ fn found_log(keeping: Keeping, source: Source) -> Next
 
 /// What comes of the bytes of the log with which a journal is founded.
 fn take_founding(alloc: Global, wait: FoundingWait, bytes: &[u8]) -> Next
-    requires { AreConnections wait.keeping.connections }
+    requires { IsBoundedSpan wait.keeping.span }
     ensures leads { Leads result (Free (OfLog (OfFoundingLog (plain_keeping wait.keeping)) bytes.now)) }
     ensures bounded { IsBoundedNext result }
     ensures fewer { reads_left result < 1 }

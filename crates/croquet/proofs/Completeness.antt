@@ -8,7 +8,8 @@ use Rattle.run_steps.specs.Outside.{Acts, Cut, FilesTell, LinksTell, NetTells, O
 use Rattle.command_words.specs.declared.words.Command.{Command}
 use Rattle.command_words.specs.declared.words.Command.TheVariants.{Stamp, Check, Replay, Inspect, Trace, Votes, Hub, Join, Live, Reflect, Host, Drill}
 use Rattle.command_words.specs.declared.words.DrillRequest.{DrillRequest}
-use Rattle.connection.specs.declared.ending.Ended.{Ended}
+use Rattle.command_words.specs.declared.words.ServingSpan.{ServingSpan}
+use Rattle.command_words.specs.declared.words.ServingSpan.TheVariants as serving_span
 use Rattle.session_log.specs.Stored.{stored_spelling}
 use Rattle.snapshot_codec.specs.Spelling.{world_spelling}
 use Rattle.world.specs.Worlds.{replay}
@@ -21,22 +22,23 @@ use Rattle.reflect_server.specs.Rounds.{CountsStop}
 use Rattle.reflect_server.specs.declared.reflection.Reflected.{Reflected}
 use Rattle.host_server.specs.declared.hosting.Hosted.{Hosted}
 use Rattle.command_host.specs.Hosting.{session_puts}
+use Rattle.reflect_posts.specs.declared.service.ReflectedOn.{ReflectedOn}
 use Rattle.host_posts.specs.Hosts.{idle_post}
 use Rattle.host_posts.specs.Shares.{SharesTell}
 use Rattle.host_posts.specs.declared.posting.HostedOn.{HostedOn}
 use Rattle.command_host.specs.HostedSteps.{hosted_text, posts_text}
-use Rattle.command_host.specs.PostsEnded.{posts_fault}
+use Rattle.command_posts.specs.PostsEnded.{posts_fault}
 use Rattle.command_outcome.specs.declared.outcome.Put.{Put}
 use Rattle.reflect_server.specs.declared.reflection.ServeFault.{ServeFault}
 use Rattle.reflect_server.specs.declared.reflection.ServeFault.TheVariants as serve_fault
 use Rattle.command_outcome.specs.Outcome.{numbered_puts, optional_put, steps_of}
-use Rattle.command_reflect.specs.ReflectedSteps.{reflected_bytes, reflected_text}
+use Rattle.command_reflect.specs.ReflectedSteps.{reflected_bytes, reflected_on_text, reflected_text}
 use Rattle.command_drill.specs.DrilledSteps.{drilled_line, drilled_steps}
 use Rattle.drill.specs.Drill.{drill_id}
 use Rattle.drill.specs.Ending.{root_total}
 use Rattle.drill.specs.declared.report.DrillReport.{DrillReport}
 use Rattle.commands.specs.Laws.{AreAlike, IsFunction, TellsPlace}
-use Rattle.commands.specs.Verdict.{ByDrill, ByHosting, ByReflecting, ByVisit, ByWant, Closing, Coming, Comes, Fine, Free, OfEnds, OfHostPuts, OfWords, Only, PlainHosting, PlainReflection, PlainVisit, ThenAll, Verdict, fine, made_puts, put_steps}
+use Rattle.commands.specs.Verdict.{ByDrill, ByHosting, ByReflecting, ByVisit, ByWant, Closing, Coming, Comes, Fine, Free, OfHostPuts, OfPut, OfWords, Only, PlainHosting, PlainReflection, PlainVisit, ThenAll, Verdict, fine, made_puts, put_steps}
 use Rattle.commands.specs.Work.{AsksNoLive, NamesNoJournal}
 use Rattle.commands.proofs.NetLaws.{never_keeps, never_lives}
 use Rattle.journal_store.specs.Stores.{StoresTell}
@@ -44,7 +46,7 @@ use Rattle.live_shell.specs.LiveSteps.{FeedTells}
 use Rattle.croquet.specs.declared.status.Status.{Status}
 use Rattle.croquet.specs.Complete.{HasRightInput, IsByPeer, IsComplete, IsDone, IsDueOf, NoLinkFailed, NoneFailed}
 use Rattle.croquet.specs.Drills.{OfDrilled}
-use Rattle.croquet.specs.Run.{Concludes, Ending, OutOfMemory, OfHosted, OfHostedOn, OfReflected, Ran, RanAlone, RanAsDrill, RanAsHost, RanAsReflector, RanAsService, RanBySteps, ServesHost, ServesNet, ServesPosts, Visits}
+use Rattle.croquet.specs.Run.{Concludes, Ending, OutOfMemory, OfHosted, OfHostedOn, OfReflected, OfReflectedOn, Ran, RanAlone, RanAsDrill, RanAsHost, RanAsReflector, RanAsService, RanBySteps, ReflectsFor, ServesHost, ServesNet, ServesPosts, ServesShares, Visits}
 use Rattle.view_follows.specs.Answered.{AnsweredVisitsHaveNoFault, VisitsEndByRefusals, VisitsEndWithLinks}
 use Rattle.croquet.proofs.Causes.{is_caused}
 use Rattle.croquet.proofs.Counts.{CountsStay, EndsDone, EndsSaid, counts_on, counts_stay, done_by, net_moves, none_in_steps, none_within, rose_within, run_keeps, said_by, steps_keep}
@@ -80,12 +82,12 @@ free_alike : (steps : List Step) (verdict : Verdict) → IsGiving steps → Free
 free_alike steps verdict gives (inl want) = subst (λ (v : Verdict). AreAlike steps Fine v.steps v.closing) (sym want) (want_alike steps)
 free_alike steps verdict gives (inr is) = subst (λ (v : Verdict). AreAlike steps Fine v.steps v.closing) (sym is) (same_alike steps gives)
 
--- what is put and printed of a session that was reflected
-abbrev reflected_steps : Option (List ℕ) → List Ended → PlainSession → List Step
-reflected_steps log ends session = steps_of (optional_put log (reflected_bytes session)) (reflected_text ends session)
+-- what is put of a session that was reflected, and then printed
+abbrev reflected_steps : Option (List ℕ) → PlainSession → List ℕ → List Step
+reflected_steps log session text = steps_of (optional_put log (reflected_bytes session)) text
 
-reflected_gives : (log : Option (List ℕ)) (ends : List Ended) (session : PlainSession) → IsGiving (reflected_steps log ends session)
-reflected_gives log ends session = giving (optional_put log (reflected_bytes session)) (reflected_text ends session)
+reflected_gives : (log : Option (List ℕ)) (session : PlainSession) (text : List ℕ) → IsGiving (reflected_steps log session text)
+reflected_gives log session text = giving (optional_put log (reflected_bytes session)) text
 
 -- the text was printed, and nothing failed
 text_alike : (text : List ℕ) (stopped : Option NetFault) (verdict : Verdict) → (stopped ≡ Some net_fault.Failed → ⊥) → Free (Only (closed_with text false stopped)) verdict
@@ -98,11 +100,11 @@ text_alike text (Some net_fault.WantOfMemory) verdict fine (inr is) =
     subst (λ (v : Verdict). AreAlike (Prints text ∷ []) Fine v.steps v.closing) (sym is) (short_alike (Prints text ∷ []) tt)
 
 reflected_alike
-    : (log : Option (List ℕ)) (ends : List Ended) (session : PlainSession) (stopped : Option NetFault) (verdict : Verdict) → (stopped ≡ Some net_fault.Failed → ⊥) → OfEnds log ends session false stopped verdict
-    → AreAlike (reflected_steps log ends session) Fine verdict.steps verdict.closing
-reflected_alike None ends session stopped verdict fine comes = text_alike (reflected_text ends session) stopped verdict fine comes
-reflected_alike (Some name) ends session stopped verdict fine (rest, is, comes) =
-    subst (λ (v : Verdict). AreAlike (reflected_steps (Some name) ends session) Fine v.steps v.closing) (sym is) (refl, text_alike (reflected_text ends session) stopped rest fine comes)
+    : (log : Option (List ℕ)) (session : PlainSession) (text : List ℕ) (stopped : Option NetFault) (verdict : Verdict) → (stopped ≡ Some net_fault.Failed → ⊥) → OfPut log session (Free (Only (closed_with text false stopped))) verdict
+    → AreAlike (reflected_steps log session text) Fine verdict.steps verdict.closing
+reflected_alike None session text stopped verdict fine comes = text_alike text stopped verdict fine comes
+reflected_alike (Some name) session text stopped verdict fine (rest, is, comes) =
+    subst (λ (v : Verdict). AreAlike (reflected_steps (Some name) session text) Fine v.steps v.closing) (sym is) (refl, text_alike text stopped rest fine comes)
 
 -- what is put of sessions that were hosted, and then printed
 abbrev hosted_steps : List (List ℕ) → List ℕ → List SessionId → List SessionState → List ℕ → List Step
@@ -275,17 +277,44 @@ module _ {F W N L : Type 0} (files : FilesTell F) (out : OutputTells W) (net : N
         (alike ran.course.verdict (λ failed. net_is_fine last (rose_at stopped failed counts)) ran.course.comes) (none_behind (later_at stopped counts) is)
 
     answered
-        : (reflection : PlainReflection) (answer : Result Reflected ServeFault) → ServesNet gives (outside_tells files out net links) reflection answer ready served
+        : (reflection : PlainReflection) (connections : ℕ) (answer : Result Reflected ServeFault) → ServesNet gives (outside_tells files out net links) reflection connections answer ready served
         → (ran : RanBySteps (outside_tells files out net links) (OfReflected reflection.log answer) served new result) → CountsStay files out net served new → IsDone result
-    answered reflection (Ok reflected) serves ran last =
+    answered reflection connections (Ok reflected) serves ran last =
         let log = reflection.log in
-        let ends = reflected.ends in
         let session = reflected.session.plain in
-        told (reflected_steps log ends session) reflected.stopped (OfReflected log (Ok reflected)) (reflected_gives log ends session)
-        (λ v fine comes. reflected_alike log ends session reflected.stopped v fine comes) serves.0.faults serves.1 ran last
-    answered reflection (Err serve_fault.ListenFault) serves ran last = absurd (net_is_fine last serves.0.faults)
-    answered reflection (Err serve_fault.WantOfMemory) serves ran last =
+        let text = reflected_text reflected.ends session in
+        told (reflected_steps log session text) reflected.stopped (OfReflected log (Ok reflected)) (reflected_gives log session text)
+        (λ v fine comes. reflected_alike log session text reflected.stopped v fine comes) serves.0.faults serves.1 ran last
+    answered reflection connections (Err serve_fault.ListenFault) serves ran last = absurd (net_is_fine last serves.0.faults)
+    answered reflection connections (Err serve_fault.WantOfMemory) serves ran last =
         done_giving [] (OfReflected reflection.log (Err serve_fault.WantOfMemory)) served new result ran tt (inl ran.course.comes) (none_behind serves.0.faults serves.1)
+
+    -- by posts, which have reflected a session
+    shown
+        : (log : Option (List ℕ)) (posts : ReflectedOn) → served ≡ record ready { net = served.net } → (ran : RanBySteps (outside_tells files out net links) (OfReflectedOn log (Ok posts)) served new result) → CountsStay files out net served new
+        → CountsStop (net.faults ready.net) (net.faults served.net) (posts_fault posts.posts) ⊎ Rose (net.faults ready.net) (net.faults served.net) → IsDone result
+    shown log posts is ran last (inl counts) =
+        let session = posts.session.plain in
+        let text = reflected_on_text posts.posts session in
+        told (reflected_steps log session text) (posts_fault posts.posts) (OfReflectedOn log (Ok posts)) (reflected_gives log session text)
+        (λ v fine comes. reflected_alike log session text (posts_fault posts.posts) v fine comes) counts is ran last
+    shown log posts is ran last (inr rose) = absurd (net_is_fine last rose)
+
+    -- or have not, for want of memory
+    unshown
+        : (log : Option (List ℕ)) → served ≡ record ready { net = served.net } → (ran : RanBySteps (outside_tells files out net links) (OfReflectedOn log (Err serve_fault.WantOfMemory)) served new result) → CountsStay files out net served new
+        → (net.faults ready.net ≤ net.faults served.net) ⊎ Rose (net.faults ready.net) (net.faults served.net) → IsDone result
+    unshown log is ran last (inl later) = done_giving [] (OfReflectedOn log (Err serve_fault.WantOfMemory)) served new result ran tt (inl ran.course.comes) (none_behind later is)
+    unshown log is ran last (inr rose) = absurd (net_is_fine last rose)
+
+    reflected
+        : {P : Type 0} (parts : SharesTell N P L) (reflection : PlainReflection) (may : Type 0) (count : ℕ) (answer : Result ReflectedOn ServeFault) → ServesShares gives may (outside_tells files out net links) parts reflection count answer ready served
+        → (ran : RanBySteps (outside_tells files out net links) (OfReflectedOn reflection.log answer) served new result) → CountsStay files out net served new → IsDone result
+    reflected parts reflection may count (Ok posts) serves ran last =
+        shown reflection.log posts serves.1 ran last (counts_posts net links ready.net served.net serves.0.posts serves.0.net may posts.posts serves.0.outcomes)
+    reflected parts reflection may count (Err serve_fault.ListenFault) serves ran last = absurd (net_is_fine last serves.0.net.faults)
+    reflected parts reflection may count (Err serve_fault.WantOfMemory) serves ran last =
+        unshown reflection.log serves.1 ran last (sunk_or_rose net links ready.net served.net (replicate serves.0.net.idle.shares idle_post) serves.0.net.idle.net)
 
     hosted
         : (hosting : PlainHosting) (connections : ℕ) (answer : Result Hosted ServeFault) → ServesHost gives (outside_tells files out net links) hosting connections answer ready served
@@ -322,12 +351,18 @@ module _ {F W N L : Type 0} (files : FilesTell F) (out : OutputTells W) (net : N
     serviced parts hosting may count (Err serve_fault.WantOfMemory) serves ran last =
         wanting hosting serves.1 ran last (sunk_or_rose net links ready.net served.net (replicate serves.0.idle.shares idle_post) serves.0.idle.net)
 
+  reflected_for
+      : {P : Type 0} (parts : SharesTell N P L) (gives : ℕ → Type 0) (may : Option (List ℕ) → Type 0) (reflection : PlainReflection) (span : ServingSpan) (old ready new : Outside F W N L) (result : Status) → CountsStay files out net old ready → NoneFailed files out net old new
+      → ReflectsFor span gives may (outside_tells files out net links) parts reflection ready new result → IsDone result
+  reflected_for parts gives may reflection (serving_span.Connections connections) old ready new result first none ran =
+      answered gives old ready ran.served new result first none reflection connections ran.answer ran.serves ran.behind (run_keeps files out net links ran.behind.steps ran.behind.ending ran.served new result ran.behind.does)
+  reflected_for parts gives may reflection (serving_span.Posts count until) old ready new result first none ran =
+      reflected gives old ready ran.served new result first none parts reflection (may until) count ran.answer ran.serves ran.behind (run_keeps files out net links ran.behind.steps ran.behind.ending ran.served new result ran.behind.does)
+
   as_reflector
-      : (gives : ℕ → Type 0) (coming : Coming) (old new : Outside F W N L) (result : Status) → RanAsReflector gives (outside_tells files out net links) coming old new result → NoneFailed files out net old new → IsDone result
-  as_reflector gives coming old new result ran none =
-      answered gives old ran.ready ran.served new result (steps_keep files out net links ran.reaches.steps None old ran.ready ran.reaches.acts) none
-      ran.reflection ran.answer ran.serves ran.behind
-      (run_keeps files out net links ran.behind.steps ran.behind.ending ran.served new result ran.behind.does)
+      : {P : Type 0} (parts : SharesTell N P L) (gives : ℕ → Type 0) (may : Option (List ℕ) → Type 0) (coming : Coming) (old new : Outside F W N L) (result : Status) → RanAsReflector gives may (outside_tells files out net links) parts coming old new result → NoneFailed files out net old new → IsDone result
+  as_reflector parts gives may coming old new result ran none =
+      reflected_for parts gives may ran.reflection ran.reflection.span old ran.ready new result (steps_keep files out net links ran.reaches.steps None old ran.ready ran.reaches.acts) none ran.serves
 
   as_host
       : (gives : ℕ → Type 0) (coming : Coming) (old new : Outside F W N L) (result : Status) → RanAsHost gives (outside_tells files out net links) coming old new result → NoneFailed files out net old new → IsDone result
@@ -373,7 +408,7 @@ module _ {F W N L : Type 0} (files : FilesTell F) (out : OutputTells W) (net : N
       : {P : Type 0} (parts : SharesTell N P L) → IsFunction → (gives : ℕ → Type 0) (may : Option (List ℕ) → Type 0) (command : Option Command) (old new : Outside F W N L) (result : Status) → RanAlone gives may (outside_tells files out net links) parts (Comes command) old new result
       → HasRightInput files old.files command → NoneFailed files out net old new → NoLinkFailed net command old.net new.net → IsDueOf command result
   comes_due parts function gives may command old new result (inl ran) right none fine = by_steps function command old new result ran right none fine
-  comes_due parts function gives may command old new result (inr (inl ran)) right none fine = due_by command result (as_reflector gives (Comes command) old new result ran none)
+  comes_due parts function gives may command old new result (inr (inl ran)) right none fine = due_by command result (as_reflector parts gives may (Comes command) old new result ran none)
   comes_due parts function gives may command old new result (inr (inr (inl ran))) right none fine = due_by command result (as_host gives (Comes command) old new result ran none)
   comes_due parts function gives may command old new result (inr (inr (inr (inl ran)))) right none fine = due_by command result (as_service parts gives may (Comes command) old new result ran none)
   comes_due parts function gives may command old new result (inr (inr (inr (inr ran)))) right none fine = due_by command result (as_drill gives (Comes command) old new result ran none)

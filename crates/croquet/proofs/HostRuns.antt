@@ -13,7 +13,7 @@ use Rattle.reflect_server.specs.declared.reflection.ServeFault.{ServeFault}
 use Rattle.reflect_server.specs.declared.reflection.ServeFault.TheVariants.{ListenFault, WantOfMemory}
 use Rattle.host_server.specs.Hosts.{Hosts}
 use Rattle.host_server.specs.declared.hosting.Hosted.{Hosted}
-use Rattle.command_words.specs.declared.words.HostSpan.TheVariants as host_span
+use Rattle.command_words.specs.declared.words.ServingSpan.TheVariants as serving_span
 use Rattle.command_host.specs.Hosting.{rooms_for}
 use Rattle.commands.specs.Verdict.{ByHosting, ByNetFault, ByWant, Coming, Free, OfHostReady, PlainHosting, ThenAll, at_once, behind, look_steps}
 use Rattle.croquet.specs.declared.status.Status.{Status}
@@ -118,7 +118,7 @@ rooms_are_enough gives listed on_demand net links calls count n n' (Err fault) l
 pub ran_hosting
     : {F W N L : Type 0} (gives : ℕ → Type 0) (files : FilesTell F) (out : OutputTells W) (net : NetTells N L) (links : LinksTell L) (coming : Coming) (hosting : PlainHosting) (connections : ℕ) (answer : Result Hosted ServeFault)
     (f mid f' : F) (w next w' : W) (n n' : N) (result : Status)
-    → hosting.span ≡ host_span.Connections connections
+    → hosting.span ≡ serving_span.Connections connections
     → Reaches (files_side_tells files out) coming (ByHosting hosting) (files_side f w) (files_side mid next)
     → Hosts gives hosting.ids hosting.on_demand net links (Listen hosting.address ∷ []) connections n n' answer
     → RanSo files out (OfHosted hosting.logs hosting.prefix answer) mid next f' w' result

@@ -13,6 +13,7 @@ use Rattle.store_io.specs.Stores.{IsOpened, TellsOnly}
 use Rattle.session_journal.specs.Journal.{most_journal}
 use Rattle.journal_store.specs.Opening.{OpensThen, opening_answer}
 use Rattle.journal_store.specs.Stores.{OpensFile, StoresTell, TakesStore}
+use Rattle.host_posts.specs.Shares.{SharesTell}
 use Rattle.reflect_server.specs.declared.reflection.Opening.{Opening}
 use Rattle.reflector_core.specs.PlainSession.{PlainSession}
 use Rattle.session_journal.specs.Journal.{Found, NoJournal, OtherSession, read_journal}
@@ -38,7 +39,7 @@ use Rattle.croquet.specs.declared.top.Turn.{Turn}
 use Rattle.croquet.specs.declared.top.Turn.TheVariants as turn
 use Rattle.croquet.specs.Calls.{Completes, IsBoundedTurn, ungone_ending, unread_ending}
 use Rattle.croquet.specs.Keeps.{EndsUnopened, FoundsOrEnds, GoesOnReady, IsKeepingTurn, OpensKeeping, OpensOrEnds, PreparesNone, PreparesOk, Prepares, ReadsJournal, ResumesOrTells, ResumesThere, ServedAs, TellsUnopened, answer_there, turn_of}
-use Rattle.croquet.specs.Run.{EndsRead, KeepsOn, OfAnswer, OfOpened, OfUngone, OpensAs, OutOfMemory, RanAsKeeper, Reaches, ServesKept, StopsAtBytes, TellsEnding, on_read_fault, on_write_fault, refusal_ending}
+use Rattle.croquet.specs.Run.{EndsRead, KeepsFor, KeepsOn, OfAnswer, OfOpened, OfUngone, OpensAs, OutOfMemory, RanAsKeeper, Reaches, StopsAtBytes, TellsEnding, on_read_fault, on_write_fault, refusal_ending}
 use Rattle.croquet.proofs.Runs.{RanSo, TurnsSo, ran_closed, ran_leading, ran_wanting}
 use Rattle.croquet.proofs.VisitRuns.{beside, does_beside, reaches_beside, steps_beside}
 
@@ -141,22 +142,22 @@ module _ {F W N L T S : Type 0} (files : FilesTell F) (out : OutputTells W) (net
       }))
 
   answer_beside
-      : (gives : ℕ → Type 0) (keeping : PlainKeeping) (answer : Result (Opened S) OpeningFault) (old new : Outside F W ⊤ ⊤) (s t : T) (result : Status)
+      : {P : Type 0} (gives : ℕ → Type 0) (may : Option (List ℕ) → Type 0) (parts : SharesTell N P L) (keeping : PlainKeeping) (answer : Result (Opened S) OpeningFault) (old new : Outside F W ⊤ ⊤) (s t : T) (result : Status)
       → OfAnswer (files_side_tells files out) keeping answer (λ store bytes. EndsRead (files_side_tells files out) stores keeping store bytes old new s t result) old new s t result
       → OfAnswer (outside_tells files out net links) keeping answer (λ store bytes. EndsRead (outside_tells files out net links) stores keeping store bytes (beside held old) (beside held new) s t result
-      ⊎ KeepsOn gives (outside_tells files out net links) stores keeping bytes (beside held old) (beside held new) s t result) (beside held old) (beside held new) s t result
-  answer_beside gives keeping (Ok (opened.There store bytes)) old new s t result ends =
+      ⊎ KeepsOn gives may (outside_tells files out net links) parts stores keeping bytes (beside held old) (beside held new) s t result) (beside held old) (beside held new) s t result
+  answer_beside gives may parts keeping (Ok (opened.There store bytes)) old new s t result ends =
       inl (record { left = ends.left; stops = stops_beside keeping store bytes ends.left old new result ends.stops; back = ends.back })
-  answer_beside gives keeping (Ok opened.Absent) old new s t result (ran, same) = (steps_beside files out net links held (OfOpened {S = S} keeping (Ok opened.Absent)) old new result ran, same)
-  answer_beside gives keeping (Ok (opened.TooLarge len)) old new s t result (ran, same) = (steps_beside files out net links held (OfOpened {S = S} keeping (Ok (opened.TooLarge len))) old new result ran, same)
-  answer_beside gives keeping (Err fault) old new s t result (ran, same) = (steps_beside files out net links held (OfOpened {S = S} keeping (Err fault)) old new result ran, same)
+  answer_beside gives may parts keeping (Ok opened.Absent) old new s t result (ran, same) = (steps_beside files out net links held (OfOpened {S = S} keeping (Ok opened.Absent)) old new result ran, same)
+  answer_beside gives may parts keeping (Ok (opened.TooLarge len)) old new s t result (ran, same) = (steps_beside files out net links held (OfOpened {S = S} keeping (Ok (opened.TooLarge len))) old new result ran, same)
+  answer_beside gives may parts keeping (Err fault) old new s t result (ran, same) = (steps_beside files out net links held (OfOpened {S = S} keeping (Err fault)) old new result ran, same)
 
   -- a command whose journal does not go on
   pub ran_unkept
-      : (gives : ℕ → Type 0) (coming : Coming) (first : PlainKeeping) (f mid f' : F) (w next w' : W) (s t : T) (result : Status) → Reaches (files_side_tells files out) coming (ByKeeping first) (files_side f w) (files_side mid next)
+      : {P : Type 0} (gives : ℕ → Type 0) (may : Option (List ℕ) → Type 0) (parts : SharesTell N P L) (coming : Coming) (first : PlainKeeping) (f mid f' : F) (w next w' : W) (s t : T) (result : Status) → Reaches (files_side_tells files out) coming (ByKeeping first) (files_side f w) (files_side mid next)
       → PreparesNone (files_side_tells files out) stores first (files_side mid next) (files_side f' w') s t result
-      → RanAsKeeper gives (outside_tells files out net links) stores coming (outside f w held None) (outside f' w' held None) s t result
-  ran_unkept gives coming first f mid f' w next w' s t result reached ends = record {
+      → RanAsKeeper gives may (outside_tells files out net links) parts stores coming (outside f w held None) (outside f' w' held None) s t result
+  ran_unkept gives may parts coming first f mid f' w next w' s t result reached ends = record {
     first = first;
     asked = outside mid next held None;
     reaches = reaches_beside files out net links held coming (ByKeeping first) (files_side f w) (files_side mid next) reached;
@@ -165,17 +166,17 @@ module _ {F W N L T S : Type 0} (files : FilesTell F) (out : OutputTells W) (net
     told = beside held ends.told;
     held = ends.held;
     opens = opens_beside first ends.keeping ends.answer (files_side mid next) ends.told s ends.held ends.opens;
-    behind = answer_beside gives ends.keeping ends.answer ends.told (files_side f' w') ends.held t result ends.ends;
+    behind = answer_beside gives may parts ends.keeping ends.answer ends.told (files_side f' w') ends.held t result ends.ends;
   }
 
   -- a command whose journal goes on, and is served
   pub ran_kept
-      : (gives : ℕ → Type 0) (coming : Coming) (first keeping : PlainKeeping) (opening : Opening (JournalKeeper S)) (f mid ready f' : F) (w next said w' : W) (n' : N) (s mid_s t : T) (result : Status)
+      : {P : Type 0} (gives : ℕ → Type 0) (may : Option (List ℕ) → Type 0) (parts : SharesTell N P L) (coming : Coming) (first keeping : PlainKeeping) (opening : Opening (JournalKeeper S)) (f mid ready f' : F) (w next said w' : W) (n' : N) (s mid_s t : T) (result : Status)
       → Reaches (files_side_tells files out) coming (ByKeeping first) (files_side f w) (files_side mid next)
       → PreparesOk (files_side_tells files out) stores first keeping opening (files_side mid next) (files_side ready said) s mid_s
-      → ServedAs gives (outside_tells files out net links) stores keeping opening (outside ready said held None) (outside f' w' n' None) mid_s t result
-      → RanAsKeeper gives (outside_tells files out net links) stores coming (outside f w held None) (outside f' w' n' None) s t result
-  ran_kept gives coming first keeping opening f mid ready f' w next said w' n' s mid_s t result reached ok served = record {
+      → ServedAs gives may (outside_tells files out net links) parts stores keeping opening (outside ready said held None) (outside f' w' n' None) mid_s t result
+      → RanAsKeeper gives may (outside_tells files out net links) parts stores coming (outside f w held None) (outside f' w' n' None) s t result
+  ran_kept gives may parts coming first keeping opening f mid ready f' w next said w' n' s mid_s t result reached ok served = record {
     first = first;
     asked = outside mid next held None;
     reaches = reaches_beside files out net links held coming (ByKeeping first) (files_side f w) (files_side mid next) reached;
@@ -191,11 +192,8 @@ module _ {F W N L T S : Type 0} (files : FilesTell F) (out : OutputTells W) (net
       first = opening.keeper;
       goes_on = ok.goes.goes_on;
       keeper = served.keeper;
-      answer = served.answer;
-      served = served.served;
-      serves = subst (λ (session : PlainSession). ServesKept gives (outside_tells files out net links) stores keeping session opening.keeper served.keeper served.answer (outside ready said held None) served.served) ok.goes.session served.serves;
+      serves = subst (λ (session : PlainSession). KeepsFor keeping.span gives may (outside_tells files out net links) parts stores keeping session opening.keeper served.keeper (outside ready said held None) (outside f' w' n' None) result) ok.goes.session served.serves;
       back = served.back;
-      behind = served.behind;
     });
   }
 

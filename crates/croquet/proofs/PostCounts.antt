@@ -13,7 +13,7 @@ use Rattle.host_posts.specs.Shares.{with_faults}
 use Rattle.host_posts.specs.declared.posting.PostEnd.{PostEnd}
 use Rattle.host_posts.specs.declared.posting.PostEnd.TheVariants as post_end
 use Rattle.host_posts.specs.declared.posting.PostOutcome.{PostOutcome}
-use Rattle.command_host.specs.PostsEnded.{has_end, is_failed, is_want, posts_fault}
+use Rattle.command_posts.specs.PostsEnded.{has_end, is_failed, is_want, posts_fault}
 
 -- ---- sums that stay at a last value
 

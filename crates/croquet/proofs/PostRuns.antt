@@ -15,7 +15,7 @@ use Rattle.reflect_server.specs.declared.reflection.ServeFault.TheVariants.{List
 use Rattle.host_posts.specs.Hosts.{HostsOn}
 use Rattle.host_posts.specs.Shares.{SharesTell}
 use Rattle.host_posts.specs.declared.posting.HostedOn.{HostedOn}
-use Rattle.command_words.specs.declared.words.HostSpan.TheVariants as host_span
+use Rattle.command_words.specs.declared.words.ServingSpan.TheVariants as serving_span
 use Rattle.command_reflect.specs.declared.reflection.LogPlace.{LogPlace}
 use Rattle.command_host.specs.Hosting.{log_names, rooms_for, session_puts}
 use Rattle.commands.specs.Verdict.{ByHosting, ByNetFault, ByWant, Coming, Free, OfHostPuts, Only, PlainHosting, ThenAll, Verdict, behind, made_puts, put_steps}
@@ -120,7 +120,7 @@ rooms_suffice gives may listed on_demand net parts links calls count n n' (Err f
 pub ran_serving
     : {F W N S L : Type 0} (gives : ℕ → Type 0) (may : Option (List ℕ) → Type 0) (files : FilesTell F) (out : OutputTells W) (net : NetTells N L) (parts : SharesTell N S L) (links : LinksTell L) (coming : Coming) (hosting : PlainHosting) (count : ℕ) (until : Option (List ℕ)) (answer : Result HostedOn ServeFault)
     (f mid f' : F) (w next w' : W) (n n' : N) (result : Status)
-    → hosting.span ≡ host_span.Posts count until
+    → hosting.span ≡ serving_span.Posts count until
     → Reaches (files_side_tells files out) coming (ByHosting hosting) (files_side f w) (files_side mid next)
     → HostsOn gives (may until) hosting.ids hosting.on_demand net parts links (Listen hosting.address ∷ []) count n n' answer
     → RanSo files out (OfHostedOn hosting.logs hosting.prefix answer) mid next f' w' result

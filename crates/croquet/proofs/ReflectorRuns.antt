@@ -1,11 +1,8 @@
 -- The run of a reflector, and what is told behind it.
 use Rattle.std.proofs.Common.{◌≡◌, inl, inr, ℕ, Bool, true, false, List, [], ◌∷◌, Option, Some, None, Result, Ok, Err, refl, ap, ◌∙◌, subst}
-use Rattle.tea_io.specs.declared.net.NetCall.TheVariants.{Listen}
 use Rattle.tea_io.specs.declared.net.NetFault.{NetFault}
 use Rattle.tea_io.specs.declared.net.NetFault.TheVariants as net_fault
-use Rattle.reflect_server.specs.Reflects.{Reflects}
-use Rattle.reflect_server.specs.Opening.{gives_later}
-use Rattle.reflect_server.specs.declared.reflection.Reflected.{Reflected}
+use Rattle.host_posts.specs.Shares.{SharesTell}
 use Rattle.reflect_server.specs.declared.reflection.ServeFault.{ServeFault}
 use Rattle.reflect_server.specs.declared.reflection.ServeFault.TheVariants.{ListenFault, WantOfMemory}
 use Rattle.reflect_server.specs.declared.reflection.KeptFault.{KeptFault}
@@ -17,10 +14,9 @@ use Rattle.command_outcome.specs.declared.outcome.Put.{Put}
 use Rattle.commands.specs.Verdict.{Closing, OfLooked, ByNetFault, ByReflecting, ByWant, ByWriteFault, Coming, Free, Only, PlainReflection, Then, Verdict, at_once, before, reflected_closing}
 use Rattle.croquet.specs.declared.status.Status.{Status}
 use Rattle.croquet.specs.Calls.{LooksOrEnds, TellsNoPlace, TellsUnput, fault_ending, kept_fault_ending, reflected_ending}
-use Rattle.croquet.specs.Run.{Concludes, Ending, on_net_fault, on_write_fault, OutOfMemory, OfKept, OfReflected, RanAsReflector, Reaches, TellsCut, TellsEnding}
+use Rattle.croquet.specs.Run.{Concludes, Ending, on_net_fault, on_write_fault, OutOfMemory, OfKept, OfKeptOn, OfReflected, OfReflectedOn, RanAsReflector, Reaches, ReflectsFor, TellsCut, TellsEnding}
 use Rattle.croquet.proofs.Acts.{DoesAll, does_so}
 use Rattle.croquet.proofs.Runs.{RanSo, later, ran_closed}
-use Rattle.croquet.proofs.VisitRuns.{ran_beside}
 
 concludes : (unkept : Bool) (stopped : Option NetFault) → Concludes (reflected_closing unkept stopped) [] (reflected_ending unkept stopped)
 concludes true stopped = (refl, refl)
@@ -165,15 +161,29 @@ ran_unkept files out log unkept kept_fault.ListenFault f w w' result told = ran_
 ran_unkept files out log unkept kept_fault.WantOfMemory f w w' result told = ran_closed files out ByWant OutOfMemory f w w' result (refl, refl) told
 ran_unkept files out log unkept kept_fault.Unkept f w w' result told = ran_closed files out ByWriteFault on_write_fault f w w' result (refl, refl) told
 
+-- the fault of posts that have no session to tell of was told
+pub ran_posts_failed
+    : {F W : Type 0} (files : FilesTell F) (out : OutputTells W) (log : Option (List ℕ)) (fault : ServeFault) (f : F) (w w' : W) (result : Status)
+    → TellsEnding out (fault_ending fault) w w' result → RanSo files out (OfReflectedOn log (Err fault)) f w f w' result
+ran_posts_failed files out log ListenFault f w w' result told = ran_closed files out ByNetFault on_net_fault f w w' result (refl, refl) told
+ran_posts_failed files out log WantOfMemory f w w' result told = ran_closed files out ByWant OutOfMemory f w w' result (refl, refl) told
+
+-- the same where the session has a keeper
+pub ran_posts_unkept
+    : {F W : Type 0} (files : FilesTell F) (out : OutputTells W) (log : Option (List ℕ)) (unkept : Bool) (fault : KeptFault) (f : F) (w w' : W) (result : Status)
+    → TellsEnding out (kept_fault_ending fault) w w' result → RanSo files out (OfKeptOn log unkept (Err fault)) f w f w' result
+ran_posts_unkept files out log unkept kept_fault.ListenFault f w w' result told = ran_closed files out ByNetFault on_net_fault f w w' result (refl, refl) told
+ran_posts_unkept files out log unkept kept_fault.WantOfMemory f w w' result told = ran_closed files out ByWant OutOfMemory f w w' result (refl, refl) told
+ran_posts_unkept files out log unkept kept_fault.Unkept f w w' result told = ran_closed files out ByWriteFault on_write_fault f w w' result (refl, refl) told
+
 -- a command that goes on as a reflector's run
 pub ran_reflecting
-    : {F W N L : Type 0} (gives : ℕ → Type 0) (files : FilesTell F) (out : OutputTells W) (net : NetTells N L) (links : LinksTell L) (coming : Coming) (reflection : PlainReflection) (answer : Result Reflected ServeFault)
+    : {F W N S L : Type 0} (gives : ℕ → Type 0) (may : Option (List ℕ) → Type 0) (files : FilesTell F) (out : OutputTells W) (net : NetTells N L) (parts : SharesTell N S L) (links : LinksTell L) (coming : Coming) (reflection : PlainReflection)
     (f mid f' : F) (w next w' : W) (n n' : N) (result : Status)
     → Reaches (files_side_tells files out) coming (ByReflecting reflection) (files_side f w) (files_side mid next)
-    → Reflects (gives_later gives reflection.opening.horizon) (record { 0 = reflection.id }) reflection.opening net links (Listen reflection.address ∷ []) reflection.connections n n' answer
-    → RanSo files out (OfReflected reflection.log answer) mid next f' w' result
-    → RanAsReflector gives (outside_tells files out net links) coming (outside f w n None) (outside f' w' n' None) result
-ran_reflecting gives files out net links coming reflection answer f mid f' w next w' n n' result reached reflects ran = record {
+    → ReflectsFor reflection.span gives may (outside_tells files out net links) parts reflection (outside mid next n None) (outside f' w' n' None) result
+    → RanAsReflector gives may (outside_tells files out net links) parts coming (outside f w n None) (outside f' w' n' None) result
+ran_reflecting gives may files out net parts links coming reflection f mid f' w next w' n n' result reached serves = record {
   reflection = reflection;
   ready = outside mid next n None;
   reaches = record {
@@ -181,8 +191,5 @@ ran_reflecting gives files out net links coming reflection answer f mid f' w nex
     comes = reached.comes;
     acts = all_beside_net net links (files_side_tells files out) n refl refl reached.steps None (files_side f w) (files_side mid next) reached.acts;
   };
-  answer = answer;
-  served = outside mid next n' None;
-  serves = (reflects, refl);
-  behind = ran_beside files out net links n' (OfReflected reflection.log answer) mid f' next w' result ran;
+  serves = serves;
 }

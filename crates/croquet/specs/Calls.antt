@@ -29,7 +29,7 @@ use Rattle.command_outcome.specs.declared.outcome.Put.{Put}
 use Rattle.command_outcome.specs.declared.outcome.Input.TheVariants as input
 use Rattle.command_outcome.specs.declared.outcome.CommandRefusal.TheVariants as refusal
 use Rattle.command_words.specs.declared.words.DrillRequest.{DrillRequest}
-use Rattle.command_words.specs.Bounds.{AreConnections, IsBoundedDrill}
+use Rattle.command_words.specs.Bounds.{IsBoundedDrill, IsBoundedSpan}
 use Rattle.tea_base.specs.declared.entry.SessionId.{SessionId}
 use Rattle.reflector_core.specs.SessionState.{SessionState}
 use Rattle.command_host.specs.Hosting.{session_puts}
@@ -166,10 +166,10 @@ abbrev pub IsOver : Turn → Type 0
 IsOver (turn.Over status) = ⊤
 IsOver other = ⊥
 
--- a reflector accepts from 1 to 64 links, and a host so many, or it has so many posts; what a journal is founded with is a stored session; a host has
--- sessions and not too many; and a drill is of the size that its words may ask for
+-- a reflector and a host accept from 1 to 64 links, or have so many posts; what a journal is founded with is a stored session; a host has sessions and
+-- not too many; and a drill is of the size that its words may ask for
 abbrev pub IsBoundedTurn : Turn → Type 0
-IsBoundedTurn (turn.Reflects reflection) = AreConnections reflection.connections
+IsBoundedTurn (turn.Reflects reflection) = IsBoundedSpan reflection.span
 IsBoundedTurn (turn.Keeps keeping) = IsBoundedKeeping keeping
 IsBoundedTurn (turn.Hosts hosting) = IsBoundedHosting hosting
 IsBoundedTurn (turn.Drills request) = IsBoundedDrill request

@@ -7,9 +7,8 @@ use Rattle.store_io.specs.declared.stores.Opened.{Opened}
 use Rattle.store_io.specs.declared.stores.Opened.TheVariants as opened
 use Rattle.store_io.specs.Stores.{TellsOnly}
 use Rattle.reflector_core.specs.Stored.{session_of}
-use Rattle.reflect_server.specs.declared.reflection.KeptFault.{KeptFault}
+use Rattle.host_posts.specs.Shares.{SharesTell}
 use Rattle.reflect_server.specs.declared.reflection.Opening.{Opening}
-use Rattle.reflect_server.specs.declared.reflection.Reflected.{Reflected}
 use Rattle.session_keeper.specs.declared.keeper.JournalKeeper.{JournalKeeper}
 use Rattle.session_log.specs.Stored.{PlainStored}
 use Rattle.session_journal.specs.Frames.{Place}
@@ -32,7 +31,7 @@ use Rattle.croquet.specs.declared.status.Status.{Status}
 use Rattle.croquet.specs.declared.top.Turn.{Turn}
 use Rattle.croquet.specs.declared.top.Turn.TheVariants as turn
 use Rattle.croquet.specs.Calls.{opening_ending, ungone_ending}
-use Rattle.croquet.specs.Run.{EndsRead, GoesOnWith, OfAnswer, OfKept, OpensAs, RanBySteps, Reaches, ServesKept, StopsAtBytes, TellsEnding, is_shut, refusal_ending}
+use Rattle.croquet.specs.Run.{EndsRead, GoesOnWith, KeepsFor, OfAnswer, OpensAs, RanBySteps, Reaches, StopsAtBytes, TellsEnding, refusal_ending}
 
 -- what is told of a store that is there
 abbrev pub answer_there : {S : Type 0} → There S → Result (Opened S) OpeningFault
@@ -170,13 +169,10 @@ Prepares tells stores first (Ok ready) old new s t =
     PreparesOk tells stores first (plain_keeping ready.0) ready.1 old new s t
 Prepares tells stores first (Err result) old new s t = PreparesNone tells stores first old new s t result
 
--- A session that goes on was served, the store is given back, and what comes of the answer is done.
-pub record ServedAs (gives : ℕ → Type 0) {F W N L T S : Type 0} (tells : OutsideTells F W N L) (stores : StoresTell T S)
-    (keeping : PlainKeeping) (opening : Opening (JournalKeeper S)) (old new : Outside F W N L) (s t : T)
-    (result : Status) : Type 0 where
+-- A session that goes on was served as long as its words say, the store is given back, and what comes of the answer is done.
+pub record ServedAs (gives : ℕ → Type 0) (may : Option (List ℕ) → Type 0) {F W N L P T S : Type 0}
+    (tells : OutsideTells F W N L) (parts : SharesTell N P L) (stores : StoresTell T S) (keeping : PlainKeeping)
+    (opening : Opening (JournalKeeper S)) (old new : Outside F W N L) (s t : T) (result : Status) : Type 0 where
   pub keeper : JournalKeeper S
-  pub answer : Result Reflected KeptFault
-  pub served : Outside F W N L
-  pub serves : ServesKept gives tells stores keeping opening.session.plain opening.keeper keeper answer old served
+  pub serves : KeepsFor keeping.span gives may tells parts stores keeping opening.session.plain opening.keeper keeper old new result
   pub back : TakesStore stores keeping.journal keeper.journal.store s t
-  pub behind : RanBySteps tells (OfKept keeping.log (is_shut keeper) answer) served new result

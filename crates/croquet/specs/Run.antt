@@ -10,6 +10,8 @@ use Rattle.reflect_server.specs.Keeping.{KeeperTells, keeper_tells}
 use Rattle.reflect_server.specs.Reflects.{Reflects, ReflectsKept}
 use Rattle.reflect_server.specs.declared.reflection.KeptFault.{KeptFault}
 use Rattle.reflect_server.specs.declared.reflection.KeptFault.TheVariants as kept_fault
+use Rattle.reflect_posts.specs.Reflects.{ReflectsOn, ReflectsUnkeptOn}
+use Rattle.reflect_posts.specs.declared.service.ReflectedOn.{ReflectedOn}
 use Rattle.tea_io.specs.Told.{Rose}
 use Rattle.store_io.specs.declared.store.StoreFault.{StoreFault}
 use Rattle.store_io.specs.declared.store.StoreFault.TheVariants as store_fault
@@ -54,9 +56,10 @@ use Rattle.command_outcome.specs.declared.outcome.Input.TheVariants as input
 use Rattle.command_outcome.specs.declared.outcome.CommandRefusal.{CommandRefusal}
 use Rattle.command_outcome.specs.declared.outcome.CommandRefusal.TheVariants as refusal
 use Rattle.command_words.specs.declared.words.DrillRequest.{DrillRequest}
-use Rattle.command_words.specs.declared.words.HostSpan.TheVariants as host_span
+use Rattle.command_words.specs.declared.words.ServingSpan.{ServingSpan}
+use Rattle.command_words.specs.declared.words.ServingSpan.TheVariants as serving_span
 use Rattle.commands.specs.Keeping.{OfAbsent, OfBytes, no_journal}
-use Rattle.commands.specs.Verdict.{Closing, Fine, ByRefusal, ByWant, ByReadFault, ByWriteFault, ByNetFault, ByVisit, ByLive, ByReflecting, ByKeeping, ByGoingOn, ByHosting, ByDrill, Verdict, PlainHosting, PlainKeeping, PlainLive, PlainReflection, PlainVisit, Coming, OfEnds, OfHostEnds, OfPostEnds, Only, at_once}
+use Rattle.commands.specs.Verdict.{Closing, Fine, ByRefusal, ByWant, ByReadFault, ByWriteFault, ByNetFault, ByVisit, ByLive, ByReflecting, ByKeeping, ByGoingOn, ByHosting, ByDrill, Verdict, PlainHosting, PlainKeeping, PlainLive, PlainReflection, PlainVisit, Coming, OfEnds, OfEndsOn, OfHostEnds, OfPostEnds, Only, at_once}
 use Rattle.croquet.specs.Drills.{OfDrilled, drill_size}
 use Rattle.croquet.specs.declared.status.Status.{Status}
 use Rattle.croquet.specs.declared.status.Status.TheVariants as status
@@ -239,15 +242,16 @@ pub record Reaches {F W N L : Type 0} (tells : OutsideTells F W N L) (coming : C
   pub comes : coming (record { steps = steps; closing = closing })
   pub acts : Acts tells steps None old new
 
--- a reflector of this session has done this to the net, by a clock that may give these values, counted from the session's horizon, and answers so; nothing else moves
+-- a reflector of this session has done this to the net, which was to give so many links, by a clock that may give these values, counted from the
+-- session's horizon, and answers so; nothing else moves
 abbrev pub ServesNet
-    : (ℕ → Type 0) → {F W N L : Type 0} → OutsideTells F W N L → PlainReflection → Result Reflected ServeFault
+    : (ℕ → Type 0) → {F W N L : Type 0} → OutsideTells F W N L → PlainReflection → ℕ → Result Reflected ServeFault
     → Outside F W N L → Outside F W N L
     → Type 0
-ServesNet gives tells reflection answer old new =
+ServesNet gives tells reflection connections answer old new =
     OnPart tells.net (λ net. OnPart tells.links (λ links.
     Reflects (gives_later gives reflection.opening.horizon) (record { 0 = reflection.id }) reflection.opening net links
-    (Listen reflection.address ∷ []) reflection.connections old.net new.net answer))
+    (Listen reflection.address ∷ []) connections old.net new.net answer))
     × (new ≡ record old { net = new.net })
 
 -- what comes of a reflector's answer: its session is put as it is stored, if there is a name for it, and then its text is printed, also where the net, or memory, gave no further link
@@ -256,16 +260,58 @@ OfReflected log (Ok reflected) = OfEnds log reflected.ends reflected.session.pla
 OfReflected log (Err serve_fault.ListenFault) = Only (at_once ByNetFault)
 OfReflected log (Err serve_fault.WantOfMemory) = Only (at_once ByWant)
 
+-- a reflector has served so many links of the net, and what comes of its answer is done
+pub record ReflectsLinks (gives : ℕ → Type 0) {F W N L : Type 0} (tells : OutsideTells F W N L)
+    (reflection : PlainReflection) (connections : ℕ) (old new : Outside F W N L) (result : Status) : Type 0 where
+  pub answer : Result Reflected ServeFault
+  pub served : Outside F W N L
+  pub serves : ServesNet gives tells reflection connections answer old served
+  pub behind : RanBySteps tells (OfReflected reflection.log answer) served new result
+
+-- So many posts have reflected this session over shares of the net, by a clock that may give these values, counted from the session's horizon, and
+-- answer so; nothing else moves. A post has stopped only where it may have been asked to.
+abbrev pub ServesShares
+    : (ℕ → Type 0) → Type 0 → {F W N L P : Type 0} → OutsideTells F W N L → SharesTell N P L → PlainReflection → ℕ
+    → Result ReflectedOn ServeFault → Outside F W N L → Outside F W N L → Type 0
+ServesShares gives may tells parts reflection links answer old new =
+    OnPart tells.net (λ net. OnPart tells.links (λ of_links.
+    ReflectsUnkeptOn (gives_later gives reflection.opening.horizon) may (record { 0 = reflection.id }) reflection.opening
+    net parts of_links (Listen reflection.address ∷ []) links old.net new.net answer))
+    × (new ≡ record old { net = new.net })
+
+-- what comes of the answer of posts: their session is put, if there is a name for it, and then its text is printed, also where a post has failed
+abbrev pub OfReflectedOn : Option (List ℕ) → Result ReflectedOn ServeFault → Coming
+OfReflectedOn log (Ok reflected) = OfEndsOn log reflected.posts reflected.session.plain false
+OfReflectedOn log (Err serve_fault.ListenFault) = Only (at_once ByNetFault)
+OfReflectedOn log (Err serve_fault.WantOfMemory) = Only (at_once ByWant)
+
+-- so many posts have served the net, and what comes of their answer is done
+pub record ReflectsByPosts (gives : ℕ → Type 0) (may : Type 0) {F W N L P : Type 0} (tells : OutsideTells F W N L)
+    (parts : SharesTell N P L) (reflection : PlainReflection) (links : ℕ) (old new : Outside F W N L) (result : Status)
+    : Type 0 where
+  pub answer : Result ReflectedOn ServeFault
+  pub served : Outside F W N L
+  pub serves : ServesShares gives may tells parts reflection links answer old served
+  pub behind : RanBySteps tells (OfReflectedOn reflection.log answer) served new result
+
+-- A session was served as long as its words say, and what comes of the answer is done. A post has stopped only where the file that the words name may
+-- have been there.
+abbrev pub ReflectsFor
+    : ServingSpan → (ℕ → Type 0) → (Option (List ℕ) → Type 0) → {F W N L P : Type 0} → OutsideTells F W N L
+    → SharesTell N P L → PlainReflection → Outside F W N L → Outside F W N L → Status → Type 0
+ReflectsFor (serving_span.Connections connections) gives may tells parts reflection old new result =
+    ReflectsLinks gives tells reflection connections old new result
+ReflectsFor (serving_span.Posts links until) gives may tells parts reflection old new result =
+    ReflectsByPosts gives (may until) tells parts reflection links old new result
+
 -- a command has done its steps, a reflector has served the net, and what comes of its answer is done
-pub record RanAsReflector (gives : ℕ → Type 0) {F W N L : Type 0} (tells : OutsideTells F W N L) (coming : Coming)
-    (old new : Outside F W N L) (result : Status) : Type 0 where
+pub record RanAsReflector (gives : ℕ → Type 0) (may : Option (List ℕ) → Type 0) {F W N L P : Type 0}
+    (tells : OutsideTells F W N L) (parts : SharesTell N P L) (coming : Coming) (old new : Outside F W N L)
+    (result : Status) : Type 0 where
   pub reflection : PlainReflection
   pub ready : Outside F W N L
   pub reaches : Reaches tells coming (ByReflecting reflection) old ready
-  pub answer : Result Reflected ServeFault
-  pub served : Outside F W N L
-  pub serves : ServesNet gives tells reflection answer ready served
-  pub behind : RanBySteps tells (OfReflected reflection.log answer) served new result
+  pub serves : ReflectsFor reflection.span gives may tells parts reflection ready new result
 
 -- ---- a host's run
 
@@ -292,7 +338,7 @@ pub record RanAsHost (gives : ℕ → Type 0) {F W N L : Type 0} (tells : Outsid
     (old new : Outside F W N L) (result : Status) : Type 0 where
   pub hosting : PlainHosting
   pub connections : ℕ
-  pub spans : hosting.span ≡ host_span.Connections connections
+  pub spans : hosting.span ≡ serving_span.Connections connections
   pub ready : Outside F W N L
   pub reaches : Reaches tells coming (ByHosting hosting) old ready
   pub answer : Result Hosted ServeFault
@@ -327,7 +373,7 @@ pub record RanAsService (gives : ℕ → Type 0) (may : Option (List ℕ) → Ty
   pub hosting : PlainHosting
   pub links : ℕ
   pub until : Option (List ℕ)
-  pub spans : hosting.span ≡ host_span.Posts links until
+  pub spans : hosting.span ≡ serving_span.Posts links until
   pub ready : Outside F W N L
   pub reaches : Reaches tells coming (ByHosting hosting) old ready
   pub answer : Result HostedOn ServeFault
@@ -357,6 +403,13 @@ OfKept log unkept (Ok reflected) = OfEnds log reflected.ends reflected.session.p
 OfKept log unkept (Err kept_fault.ListenFault) = Only (at_once ByNetFault)
 OfKept log unkept (Err kept_fault.WantOfMemory) = Only (at_once ByWant)
 OfKept log unkept (Err kept_fault.Unkept) = Only (at_once ByWriteFault)
+
+-- and of that of its posts
+abbrev pub OfKeptOn : Option (List ℕ) → Bool → Result ReflectedOn KeptFault → Coming
+OfKeptOn log unkept (Ok reflected) = OfEndsOn log reflected.posts reflected.session.plain unkept
+OfKeptOn log unkept (Err kept_fault.ListenFault) = Only (at_once ByNetFault)
+OfKeptOn log unkept (Err kept_fault.WantOfMemory) = Only (at_once ByWant)
+OfKeptOn log unkept (Err kept_fault.Unkept) = Only (at_once ByWriteFault)
 
 -- a journal is opened and, where it was not there, founded and opened again; all steps that come of that are done
 abbrev pub OpensAs : {F W N L T S : Type 0} → OutsideTells F W N L → StoresTell T S → PlainKeeping → PlainKeeping
@@ -416,16 +469,28 @@ journal_tells stores session first keeper =
     keeper_tells (IsJournalOf stores.told stores.safe) IsShut (fault_count stores.store_faults)
     (fault_count stores.store_faults first) session keeper
 
--- A reflector of this session has done this to the net, and its keeper has kept what it came to.
+-- A reflector of this session has done this to the net, which was to give so many links, and its keeper has kept what it came to.
 abbrev pub ServesKept
-    : (ℕ → Type 0) → {F W N L T S : Type 0} → OutsideTells F W N L → StoresTell T S → PlainKeeping → PlainSession
+    : (ℕ → Type 0) → {F W N L T S : Type 0} → OutsideTells F W N L → StoresTell T S → PlainKeeping → ℕ → PlainSession
     → JournalKeeper S → JournalKeeper S → Result Reflected KeptFault → Outside F W N L → Outside F W N L
     → Type 0
-ServesKept gives tells stores keeping session first keeper answer old new =
+ServesKept gives tells stores keeping connections session first keeper answer old new =
     OnPart tells.net (λ net. OnPart tells.links (λ links.
     ReflectsKept (gives_later gives session.horizon) (record { 0 = keeping.id }) session
     (journal_tells stores session first keeper) net links
-    (Listen keeping.address ∷ []) keeping.connections old.net new.net answer))
+    (Listen keeping.address ∷ []) connections old.net new.net answer))
+    × (new ≡ record old { net = new.net })
+
+-- So many posts have done this to the net, and their keeper has kept what the session came to.
+abbrev pub ServesKeptOn
+    : (ℕ → Type 0) → Type 0 → {F W N L P T S : Type 0} → OutsideTells F W N L → SharesTell N P L → StoresTell T S
+    → PlainKeeping → ℕ → PlainSession → JournalKeeper S → JournalKeeper S → Result ReflectedOn KeptFault
+    → Outside F W N L → Outside F W N L → Type 0
+ServesKeptOn gives may tells parts stores keeping links session first keeper answer old new =
+    OnPart tells.net (λ net. OnPart tells.links (λ of_links.
+    ReflectsOn (gives_later gives session.horizon) may (record { 0 = keeping.id }) session
+    (journal_tells stores session first keeper) net parts of_links
+    (Listen keeping.address ∷ []) links old.net new.net answer))
     × (new ≡ record old { net = new.net })
 
 -- Whatever call of its store has failed: where the store tells its bytes, the safe ones are read as a session that has the log of the play of the
@@ -440,27 +505,55 @@ StoresKeepPlays {S = S} stores =
 abbrev pub is_shut : {S : Type 0} → JournalKeeper S → Bool
 is_shut keeper = keeper.journal.shut || keeper.full
 
+-- a reflector has served so many links of the net, and what comes of its answer is done
+pub record KeepsLinks (gives : ℕ → Type 0) {F W N L T S : Type 0} (tells : OutsideTells F W N L)
+    (stores : StoresTell T S) (keeping : PlainKeeping) (connections : ℕ) (session : PlainSession)
+    (first keeper : JournalKeeper S) (old new : Outside F W N L) (result : Status) : Type 0 where
+  pub answer : Result Reflected KeptFault
+  pub served : Outside F W N L
+  pub serves : ServesKept gives tells stores keeping connections session first keeper answer old served
+  pub behind : RanBySteps tells (OfKept keeping.log (is_shut keeper) answer) served new result
+
+-- so many posts have served the net, and what comes of their answer is done
+pub record KeepsByPosts (gives : ℕ → Type 0) (may : Type 0) {F W N L P T S : Type 0} (tells : OutsideTells F W N L)
+    (parts : SharesTell N P L) (stores : StoresTell T S) (keeping : PlainKeeping) (links : ℕ) (session : PlainSession)
+    (first keeper : JournalKeeper S) (old new : Outside F W N L) (result : Status) : Type 0 where
+  pub answer : Result ReflectedOn KeptFault
+  pub served : Outside F W N L
+  pub serves : ServesKeptOn gives may tells parts stores keeping links session first keeper answer old served
+  pub behind : RanBySteps tells (OfKeptOn keeping.log (is_shut keeper) answer) served new result
+
+-- A session was served as long as its words say, and what comes of the answer is done. A post has stopped only where the file that the words name may
+-- have been there.
+abbrev pub KeepsFor
+    : ServingSpan → (ℕ → Type 0) → (Option (List ℕ) → Type 0) → {F W N L P T S : Type 0} → OutsideTells F W N L
+    → SharesTell N P L → StoresTell T S → PlainKeeping → PlainSession → JournalKeeper S → JournalKeeper S
+    → Outside F W N L → Outside F W N L → Status → Type 0
+KeepsFor (serving_span.Connections connections) gives may tells parts stores keeping session first keeper old new result =
+    KeepsLinks gives tells stores keeping connections session first keeper old new result
+KeepsFor (serving_span.Posts links until) gives may tells parts stores keeping session first keeper old new result =
+    KeepsByPosts gives (may until) tells parts stores keeping links session first keeper old new result
+
 -- A journal was read, and its session goes on: a reflector has served the net, the store is given back, and what comes of the answer is done.
-pub record KeepsOn (gives : ℕ → Type 0) {F W N L T S : Type 0} (tells : OutsideTells F W N L) (stores : StoresTell T S)
-    (keeping : PlainKeeping) (bytes : List ℕ) (old new : Outside F W N L) (s t : T) (result : Status) : Type 0 where
+pub record KeepsOn (gives : ℕ → Type 0) (may : Option (List ℕ) → Type 0) {F W N L P T S : Type 0}
+    (tells : OutsideTells F W N L) (parts : SharesTell N P L) (stores : StoresTell T S) (keeping : PlainKeeping)
+    (bytes : List ℕ) (old new : Outside F W N L) (s t : T) (result : Status) : Type 0 where
   pub place : Place PlainStored
   pub ready : Outside F W N L
   pub reaches : Reaches tells (OfBytes keeping bytes) (ByGoingOn keeping place) old ready
   pub first : JournalKeeper S
   pub goes_on : GoesOnWith stores.told stores.safe (session_of place.state) first
   pub keeper : JournalKeeper S
-  pub answer : Result Reflected KeptFault
-  pub served : Outside F W N L
-  pub serves : ServesKept gives tells stores keeping (session_of place.state) first keeper answer ready served
+  pub serves : KeepsFor keeping.span gives may tells parts stores keeping (session_of place.state) first keeper ready new result
   pub back : TakesStore stores keeping.journal keeper.journal.store s t
-  pub behind : RanBySteps tells (OfKept keeping.log (is_shut keeper) answer) served new result
 
 -- what comes of a journal that is there
-abbrev pub OfThere : (ℕ → Type 0) → {F W N L T S : Type 0} → OutsideTells F W N L → StoresTell T S → PlainKeeping → S
-    → List ℕ → Outside F W N L → Outside F W N L → T → T → Status → Type 0
-OfThere gives tells stores keeping store bytes old new s t result =
+abbrev pub OfThere : (ℕ → Type 0) → (Option (List ℕ) → Type 0) → {F W N L P T S : Type 0} → OutsideTells F W N L
+    → SharesTell N P L → StoresTell T S → PlainKeeping → S → List ℕ → Outside F W N L → Outside F W N L → T → T
+    → Status → Type 0
+OfThere gives may tells parts stores keeping store bytes old new s t result =
     EndsRead tells stores keeping store bytes old new s t result
-    ⊎ KeepsOn gives tells stores keeping bytes old new s t result
+    ⊎ KeepsOn gives may tells parts stores keeping bytes old new s t result
 
 -- what comes of a journal that was opened, or was not: where it is there, this; else the run ends, and the stores are as they were
 abbrev pub OfAnswer : {F W N L T S : Type 0} → OutsideTells F W N L → PlainKeeping → Result (Opened S) OpeningFault
@@ -470,8 +563,9 @@ OfAnswer tells keeping answer there old new s t result = RanBySteps tells (OfOpe
     × (t ≡ s)
 
 -- A command has done its steps, its journal was opened, and what comes of that is done; the stores come to this.
-pub record RanAsKeeper (gives : ℕ → Type 0) {F W N L T S : Type 0} (tells : OutsideTells F W N L)
-    (stores : StoresTell T S) (coming : Coming) (old new : Outside F W N L) (s t : T) (result : Status) : Type 0 where
+pub record RanAsKeeper (gives : ℕ → Type 0) (may : Option (List ℕ) → Type 0) {F W N L P T S : Type 0}
+    (tells : OutsideTells F W N L) (parts : SharesTell N P L) (stores : StoresTell T S) (coming : Coming)
+    (old new : Outside F W N L) (s t : T) (result : Status) : Type 0 where
   pub first : PlainKeeping
   pub asked : Outside F W N L
   pub reaches : Reaches tells coming (ByKeeping first) old asked
@@ -481,7 +575,7 @@ pub record RanAsKeeper (gives : ℕ → Type 0) {F W N L T S : Type 0} (tells : 
   pub held : T
   pub opens : OpensAs tells stores first keeping answer asked told s held
   pub behind : OfAnswer tells keeping answer (λ store bytes.
-      OfThere gives tells stores keeping store bytes told new held t result) told new held t result
+      OfThere gives may tells parts stores keeping store bytes told new held t result) told new held t result
 
 -- ---- a drill
 
@@ -527,16 +621,16 @@ abbrev pub RanAlone : (ℕ → Type 0) → (Option (List ℕ) → Type 0) → {F
     → SharesTell N P L → Coming → Outside F W N L → Outside F W N L → Status → Type 0
 RanAlone gives may tells parts coming old new result =
     RanBySteps tells coming old new result
-    ⊎ (RanAsReflector gives tells coming old new result
+    ⊎ (RanAsReflector gives may tells parts coming old new result
     ⊎ (RanAsHost gives tells coming old new result
     ⊎ (RanAsService gives may tells parts coming old new result ⊎ RanAsDrill gives tells coming old new result)))
 
 -- A command has run: so, and the stores and the feed of lines are as they were; or as a reflector that keeps a journal; or as a live view. The file that
--- a service names may have been there where `may` says so.
+-- the words of a service name may have been there where `may` says so.
 abbrev pub Ran
     : (ℕ → Type 0) → (Option (List ℕ) → Type 0) → {F W N L P T S K : Type 0} → OutsideTells F W N L → SharesTell N P L
     → StoresTell T S → FeedTells K → Coming → Outside F W N L → Outside F W N L → T → T → K → K → Status → Type 0
 Ran gives may tells parts stores feed coming old new s t k k' result =
     (RanAlone gives may tells parts coming old new result × (t ≡ s) × (k' ≡ k))
-    ⊎ ((RanAsKeeper gives tells stores coming old new s t result × (k' ≡ k))
+    ⊎ ((RanAsKeeper gives may tells parts stores coming old new s t result × (k' ≡ k))
     ⊎ (RanAsLive tells feed coming old new k k' result × (t ≡ s)))

@@ -10,9 +10,8 @@ use crate::giving::{give, look_or_tell, put_or_tell};
 use crate::reflecting::{tell_end, tell_fault};
 use crate::status::Status;
 use crate::telling::tell_want_of_memory;
-use command_host::{
-    LogPlaces, Rooms, hosted_outcome, on_demand_places, posts_fault, posts_outcome,
-};
+use command_host::{LogPlaces, Rooms, hosted_outcome, on_demand_places, posts_outcome};
+use command_posts::posts_fault;
 use command_reflect::{LogPlace, reflected_put};
 use host_posts::HostedOn;
 use host_server::Hosted;

@@ -141,7 +141,7 @@ pub(crate) fn tell_reflected<F: Files, W: Sink>(
 }
 
 /// Tells why a reflector whose session has a keeper has no session to tell of.
-fn tell_kept_fault<W: Sink>(fault: KeptFault, out: &mut W) -> Status
+pub(crate) fn tell_kept_fault<W: Sink>(fault: KeptFault, out: &mut W) -> Status
     ensures { TellsEnding (output_tells W.Sink) (kept_fault_ending fault) out.old out.new result }
 {
     match fault {

@@ -3,7 +3,7 @@ ghost use Rattle.std.specs.Prelude.{◌≡◌, None, List};
 ghost use Rattle.run_steps.specs.Calls.{came_of, given_of};
 ghost use Rattle.run_steps.specs.Outside.{ReadsFile, files_side, files_side_tells, files_tell, links_tell, net_tells, output_tells, outside, outside_tells};
 ghost use Rattle.command_words.specs.CommandWords.{command_of};
-ghost use Rattle.command_words.specs.Bounds.{UsesNet, AreConnections};
+ghost use Rattle.command_words.specs.Bounds.{IsBoundedSpan, UsesNet};
 ghost use Rattle.command_hub.specs.HubRun.{IsOfCalls};
 ghost use Rattle.command_hub.specs.declared.script.HubLine.{HubLine};
 ghost use Rattle.commands.specs.Laws.{IsFunction, LogsTellTheirEvents, SnapshotsAgree, SomeVerdictComes};
@@ -32,14 +32,15 @@ use crate::hosting::{HostPlaces, look_for_logs, tell_hosted, tell_posts};
 use crate::keeping::prepare;
 use crate::kept::{serve_kept, stores_keep_plays};
 use crate::living::{live_runs_are_caused, run_live_view};
-use crate::reflecting::{look_for_log, tell_reflected};
+use crate::reflecting::look_for_log;
+use crate::serving::serve_unkept;
 use crate::status::Status;
 use crate::telling::{tell, tell_refusal, tell_want_of_memory};
 use crate::visiting::run_visit;
 use command_host::Hosting;
 use command_hub::names_are_apart;
 use command_reflect::{Keeping, Reflection};
-use command_words::{DrillRequest, HostSpan, read_command};
+use command_words::{DrillRequest, ServingSpan, read_command};
 use commands::{
     LiveStart, Next, VisitRequest, Waiting, logs_tell_their_events, one_verdict, snapshots_agree,
     some_verdict,
@@ -50,7 +51,6 @@ use host_server::{Host, host};
 use live_shell::Feed;
 use live_view::live_is_script;
 use net_shares::{FileStop, SharedNet, Signs};
-use reflect_server::{Server, reflect};
 use run_steps::{CallFault, read_file};
 use std::alloc::Global;
 use std::sync::Wait;
@@ -94,7 +94,7 @@ fn read_asked<F: Files>(files: &mut F, waiting: &Waiting) -> Result<Option<Blob>
 
 /// A session is ready to be reflected, once the run has looked whether its log can be put in the end.
 fn ready<F: Files, W: Sink>(reflection: Reflection, files: &mut F, out: &mut W) -> Turn
-    requires { AreConnections reflection.connections }
+    requires { IsBoundedSpan reflection.span }
     ensures turns { Turns (files_side_tells (files_tell F.Files) (output_tells W.Sink))
         result (OfReady (plain_reflection reflection)) (files_side files.old out.old) (files_side files.new out.new) }
     ensures bounded { IsBoundedTurn result }
@@ -178,8 +178,8 @@ pub fn begin<F: Files, W: Sink>(alloc: Global, words: &Words, files: &mut F, out
 /// the net back. A live view does the lines of `feed`, which no other command asks. This is all that the program does once it has its words.
 ///
 /// All commands but `join`, `reflect`, `host` and `drill` wait for nobody, so they return. The run of `join` ends when its script or its feed does, or its
-/// net; that of `reflect` or `host` when it has accepted all its links, and all of them have ended; that of `drill` when its views have ended. A `host`
-/// whose links are not counted ends when each of its posts has: a post stops only where the file that the words name may be there, and ends else where its
+/// net; that of `reflect` or `host` when it has accepted all its links, and all of them have ended; that of `drill` when its views have ended. A `reflect`
+/// or a `host` whose links are not counted ends when each of its posts has: a post stops only where the file that the words name may be there, and ends else where its
 /// share of the net fails or finds no memory, or once it has served all the links that it may. The file is looked for among `signs`.
 pub fn croquet<
     R: Threads + Wait + Sync,
@@ -298,28 +298,12 @@ pub fn croquet<
             (net, status)
         }
         Turn::Reflects(reflection) => {
-            let Reflection {
-                id,
-                opening,
-                address,
-                connections,
-                log,
-            } = reflection;
-            let server = Server {
-                id,
-                address: &address,
-                connections,
-                clock,
-                gate,
-            };
-            let (net, answer) = reflect(rt, alloc, &server, opening, net);
-            let status = tell_reflected(alloc, log, answer, files, out);
-            (net, status)
+            serve_unkept(rt, alloc, reflection, files, clock, net, gate, signs, out)
         }
         Turn::Keeps(keeping) => match prepare(alloc, keeping, files, out, stores) {
             Ok((keeping, opening)) => {
                 serve_kept(
-                    rt, alloc, keeping, opening, files, stores, clock, net, gate, out,
+                    rt, alloc, keeping, opening, files, stores, clock, net, gate, signs, out,
                 )
             }
             Err(status) => (net, status),
@@ -340,7 +324,7 @@ pub fn croquet<
                 rooms,
             };
             match span {
-                HostSpan::Connections(connections) => {
+                ServingSpan::Connections(connections) => {
                     let wanted = Host {
                         ids: ids.as_slice(),
                         on_demand,
@@ -353,7 +337,7 @@ pub fn croquet<
                     let status = tell_hosted(alloc, places, answer, files, out);
                     (net, status)
                 }
-                HostSpan::Posts { links, until } => {
+                ServingSpan::Posts { links, until } => {
                     let stop = FileStop::new(signs, clock, until);
                     let wanted = Posts {
                         ids: ids.as_slice(),

@@ -1,6 +1,6 @@
 //! Which session a run serves or joins, as its files are read, and what ends a service.
 use command_outcome::read_program;
-use command_words::{Command, HostSpan, read_command};
+use command_words::{Command, ServingSpan, read_command};
 use model_solved::Checked;
 use model_value::Value;
 use persist_json::from_json;
@@ -19,19 +19,22 @@ pub enum ServiceEnd {
     /// The command is none, or memory is short.
     Unknown,
     /// Nothing but a kill.
-    Kill,
+    Kill {
+        /// Whether a journal keeps what was told until then.
+        is_kept: bool,
+    },
     /// This file.
     File(Text),
 }
 
 impl ServiceEnd {
-    /// That of a host which serves so long.
-    fn of(span: &HostSpan) -> ServiceEnd {
-        let HostSpan::Posts { until, .. } = span else {
+    /// That of a reflector or a host which serves so long, and keeps a journal or does not.
+    fn of(span: &ServingSpan, is_kept: bool) -> ServiceEnd {
+        let ServingSpan::Posts { until, .. } = span else {
             return ServiceEnd::Unknown;
         };
         match until {
-            None => ServiceEnd::Kill,
+            None => ServiceEnd::Kill { is_kept },
             Some(file) => match file.try_clone() {
                 Ok(file) => ServiceEnd::File(file),
                 Err(_) => ServiceEnd::Unknown,
@@ -68,9 +71,10 @@ impl Served {
 
     fn in_command(alloc: Global, command: &Command) -> Served {
         match command {
-            Command::Reflect(request) => {
-                Served::named(alloc, Some(&request.name), request.persisted.as_ref(), 0)
-            }
+            Command::Reflect(request) => Served {
+                end: ServiceEnd::of(&request.span, request.journal.is_some()),
+                ..Served::named(alloc, Some(&request.name), request.persisted.as_ref(), 0)
+            },
             Command::Join(request) => {
                 let persisted = request.persisted.as_ref();
                 Served::named(alloc, Some(&request.name), persisted, request.view)
@@ -80,7 +84,7 @@ impl Served {
                 Served::named(alloc, Some(&request.name), persisted, request.view)
             }
             Command::Host(request) => Served {
-                end: ServiceEnd::of(&request.span),
+                end: ServiceEnd::of(&request.span, false),
                 ..Served::named(alloc, None, None, 0)
             },
             _ => Served::named(alloc, None, None, 0),

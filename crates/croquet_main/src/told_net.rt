@@ -126,8 +126,11 @@ fn tell_end<R: Eprint>(rt: &R, end: &ServiceEnd) {
             let file = file.as_str();
             eprintln!(rt; "it ends once {file} is there and its links have ended")
         }
-        ServiceEnd::Kill => eprintln!(rt;
-            "only a kill ends it, and then no session is written: --until FILE names a file that ends it"
+        ServiceEnd::Kill { is_kept: true } => eprintln!(rt;
+            "only a kill ends it, and the same line goes on from the journal: --until STOP names a file that ends it"
+        ),
+        ServiceEnd::Kill { is_kept: false } => eprintln!(rt;
+            "only a kill ends it, and then no session is written: --until STOP names a file that ends it"
         ),
         ServiceEnd::Unknown => Ok(()),
     };

@@ -77,13 +77,13 @@ fn reflector_text(reason: NetReason) -> &'static str {
 fn view_text(reason: NetReason) -> &'static str {
     match reason {
         NetReason::System(ErrorKind::ConnectionRefused) =>
-            "start `reflect` first, and wait for its line `listening at`. It ends once its N links were accepted and have ended",
+            "start `reflect` first, and wait for its line `listening at`. It ends once its links have ended",
         NetReason::System(ErrorKind::TimedOut) => "nobody answered there in 5 seconds",
         NetReason::System(ErrorKind::NetworkUnreachable | ErrorKind::HostUnreachable) =>
             "no way leads there",
         NetReason::System(_) => "the system made no connection",
         NetReason::Handshake =>
-            "the handshake was not answered: the N links of the reflector are used up, or what listens there is none",
+            "the handshake was not answered: the reflector takes no further link, or what listens there is none",
         NetReason::Link =>
             "the link failed once it was open: the other end reset it or broke the rules of WebSockets, or took not a byte for 5 seconds",
     }

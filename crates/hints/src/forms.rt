@@ -55,12 +55,12 @@ pub const COMMANDS: [CommandForm; 12] = [
         does: "takes part in a session as a view, by lines of the standard input",
     },
     CommandForm {
-        form: "reflect PROGRAM NAME ADDRESS [--persisted JSON] [--from LOG] [--journal JOURNAL] [--log FILE] --connections N",
-        does: "serves a session; a journal or a log is named at least",
+        form: "reflect PROGRAM NAME ADDRESS [--persisted JSON] [--from LOG] [--journal JOURNAL] [--log FILE] [--connections N] [--links P] [--until STOP]",
+        does: "serves a session, to N links in all, or to P at a time until STOP is there; a journal or a log is named at least",
     },
     CommandForm {
-        form: "host CONFIG ADDRESS [--connections N] [--links P] [--until FILE] --logs PREFIX",
-        does: "serves the sessions that a configuration names, each to the links that join it, N in all, or P at a time until FILE is there",
+        form: "host CONFIG ADDRESS [--connections N] [--links P] [--until STOP] --logs PREFIX",
+        does: "serves the sessions that a configuration names, each to the links that join it, N in all, or P at a time until STOP is there",
     },
     CommandForm {
         form: "drill SEED VIEWS EVENTS --log FILE --snapshots PREFIX",

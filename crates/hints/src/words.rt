@@ -189,7 +189,7 @@ fn missing(
     two_ends(alloc, words)
 }
 
-/// What is wrong with a host whose links are counted, where it is to be a service too.
+/// What is wrong with a reflector or a host whose links are counted, where it is to be a service too.
 fn two_ends(alloc: Global, words: &[Text]) -> Result<Option<WordFault>, WantOfMemory> {
     if !has_word(words, "--connections") {
         return Ok(None);

@@ -130,14 +130,14 @@ module _ (gives : ℕ → Type 0) (may : Type 0) (listed ids : List SessionId) (
 -- ---- answers
 
 module _ (gives : ℕ → Type 0) (may : Type 0) (listed : List SessionId) (on_demand : Bool) {N S L : Type 0} (tells : NetTells N L) (parts : SharesTell N S L) (links : LinksTell L) (count : ℕ) where
-  since_none : (before since : N) → HasGivenNone tells before since → HasIdleBack tells links before since
+  pub since_none : (before since : N) → HasGivenNone tells before since → HasIdleBack tells links before since
   since_none before since none = record { shares = 0; net = record { since = since; none = none; back = shares_none tells links since } }
 
   -- memory was wanted before the net was asked
   pub hosts_want : (calls : List NetCall) (net : N) → HostsOn gives may listed on_demand tells parts links calls count net net (Err WantOfMemory)
   hosts_want calls net = record { shared = refl; idle = since_none net net (given_none tells net); asked = inl refl }
 
-  listened : {T : Type 0} (address : List ℕ) (result : Result T NetFault) (before now : N) → Listens tells links address result before now → HasGivenNone tells before now
+  pub listened : {T : Type 0} (address : List ℕ) (result : Result T NetFault) (before now : N) → Listens tells links address result before now → HasGivenNone tells before now
   listened address result before now listens = record {
     coming = listens.coming;
     over = listens.over;
@@ -177,13 +177,13 @@ module _ (gives : ℕ → Type 0) (may : Type 0) (listed : List SessionId) (on_d
   hosts_unshared fault answer before now is shared back asked rose =
       subst (λ (f : ServeFault). HostsOn gives may listed on_demand tells parts links [] count before now (Err f)) (sym is) (unshared_by fault before now shared back asked rose)
 
-  since_before : (before mid now : N) (posts : List (PostHistory L)) → HasGivenNone tells before mid → HasSharesSince tells links mid now posts → HasSharesSince tells links before now posts
+  pub since_before : (before mid now : N) (posts : List (PostHistory L)) → HasGivenNone tells before mid → HasSharesSince tells links mid now posts → HasSharesSince tells links before now posts
   since_before before mid now posts none since = record { since = since.since; none = given_more tells before mid since.since none since.none; back = since.back }
 
-  idle_before : (before mid now : N) → HasGivenNone tells before mid → HasIdleBack tells links mid now → HasIdleBack tells links before now
+  pub idle_before : (before mid now : N) → HasGivenNone tells before mid → HasIdleBack tells links mid now → HasIdleBack tells links before now
   idle_before before mid now none idle = record { shares = idle.shares; net = since_before before mid now (replicate idle.shares idle_post) none idle.net }
 
-  asked_since : (calls : List NetCall) (before mid now : N) → tells.asked mid ≡ with_more (tells.asked before) calls → tells.asked now ≡ with_more (tells.asked mid) [] → tells.asked now ≡ with_more (tells.asked before) calls
+  pub asked_since : (calls : List NetCall) (before mid now : N) → tells.asked mid ≡ with_more (tells.asked before) calls → tells.asked now ≡ with_more (tells.asked mid) [] → tells.asked now ≡ with_more (tells.asked before) calls
   asked_since calls before mid now first then = then ∙ (with_more_none (tells.asked mid) ∙ first)
 
   rose_since : (before mid now : ℕ) → before ≤ mid → Rose mid now → Rose before now

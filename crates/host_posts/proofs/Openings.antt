@@ -9,7 +9,7 @@ use Rattle.host_server.proofs.Places.{all_at, at_all, element_at}
 use Rattle.id_claims.specs.Passes.{PassState as ClaimState}
 use Rattle.host_posts.specs.Passes.{HasGivenPosts, IsPostPass, IsPostRow}
 
-passes_still : (count : ℕ) (leads now passes : List PassState) → AtEach (HasGiven count) leads now → AtEach IsPostPass leads passes → AtEach IsPostPass now passes
+pub passes_still : (count : ℕ) (leads now passes : List PassState) → AtEach (HasGiven count) leads now → AtEach IsPostPass leads passes → AtEach IsPostPass now passes
 passes_still count leads now passes given posts = record {
   as_long = sym given.as_long ∙ posts.as_long;
   each = λ place last pass in_now in_passes.
@@ -18,7 +18,7 @@ passes_still count leads now passes given posts = record {
       subst (λ (p : PassState). IsPostPass p pass) (sym (given.each place lead.0 last lead.1 in_now).kept) (posts.each place lead.0 pass lead.1 in_passes);
 }
 
-claim_still : (count : ℕ) (lead now fresh : ClaimState) → HasGivenClaims count lead now → IsFreshClaim lead fresh → IsFreshClaim now fresh
+pub claim_still : (count : ℕ) (lead now fresh : ClaimState) → HasGivenClaims count lead now → IsFreshClaim lead fresh → IsFreshClaim now fresh
 claim_still count lead now fresh given is = record {
   claims = is.claims ∙ sym (ap (λ (p : ClaimState). p.claims) given.kept);
   parts = is.parts;

@@ -1,7 +1,7 @@
 -- What a post has done: nothing yet, one link more, and all in the end.
-use Rattle.std.proofs.Common.{◌≡◌, ◌+◌, ◌≤◌, ◌<◌, ℕ, Bool, true, false, All, Any, if◌then◌else◌, List, [], ◌∷◌, ◌++◌, get_or, length, take, zero, suc, Option, Some, None, append-nil, append_assoc, length-append, refl, sym, ap, ◌∙◌, subst, arith}
+use Rattle.std.proofs.Common.{◌≡◌, ◌+◌, ◌≤◌, ◌<◌, ℕ, Bool, true, false, All, Any, if◌then◌else◌, List, [], ◌∷◌, ◌++◌, length, Option, Some, None, append-nil, append_assoc, length-append, refl, sym, ap, ◌∙◌, subst, arith}
 use Rattle.std.specs.List.{slice_get}
-use Rattle.std.proofs.lemmas.List.{get_or_append_left, get_or-append-add, length_push, map-append, take_more}
+use Rattle.std.proofs.lemmas.List.{get_or_append_left, get_or-append-add, length_push, map-append}
 use Rattle.std.proofs.lemmas.List.Elements.{All-append}
 use Rattle.std.proofs.lemmas.Option.{slice_get_within}
 use Rattle.tea_base.specs.declared.entry.SessionId.{SessionId}
@@ -27,7 +27,7 @@ use Rattle.host_server.specs.declared.rooms.Room.{Room}
 use Rattle.host_server.proofs.Gathering.{gathers_none}
 use Rattle.host_server.proofs.NetLaws.{nothing_back}
 use Rattle.host_server.proofs.Places.{all_at, at_all, element_at, same_element}
-use Rattle.host_posts.specs.Counts.{both_counts, no_ends, with_end, with_ends, with_posts}
+use Rattle.host_posts.specs.Counts.{with_end, with_ends}
 use Rattle.host_posts.specs.Passes.{HaveSpare, MayServe, UsesOneAtMost}
 use Rattle.host_posts.specs.Posts.{EndsBy, most_links}
 use Rattle.host_posts.specs.Rounds.{PostGoes, ServesNext}
@@ -35,8 +35,6 @@ use Rattle.host_posts.specs.Shares.{HasGivenLink, HasWaited}
 use Rattle.host_posts.specs.declared.counting.EndCounts.{EndCounts}
 use Rattle.host_posts.specs.declared.post.Post.{Post}
 use Rattle.host_posts.specs.declared.posting.PostEnd.{PostEnd}
-use Rattle.host_posts.specs.declared.posting.PostOutcome.{PostOutcome}
-use Rattle.host_posts.specs.declared.posting.PostEnd.TheVariants.{Stopped, Failed, WantOfMemory, Spent}
 use Rattle.host_posts.proofs.Gatherings.{all_append, gathers_next}
 
 -- ---- lists
@@ -242,26 +240,3 @@ post_waited gives ids on_demand {L = L} tells links rooms count before mid given
 -- a count of faults that was still as it had been before
 pub ends_since : (may : Type 0) (links before mid now : ℕ) (end : PostEnd) → mid ≡ before → EndsBy may links mid now end → EndsBy may links before now end
 ends_since may links before mid now end same ended = subst (λ (n : ℕ). EndsBy may links n now end) same ended
-
--- ---- the counts of posts
-
-posts_push : (counts : EndCounts) (posts : List PostOutcome) (post : PostOutcome) → with_posts counts (posts ++ post ∷ []) ≡ both_counts (with_posts counts posts) post.counts
-posts_push counts [] post = refl
-posts_push counts (one ∷ posts) post = posts_push (both_counts counts one.counts) posts post
-
-pub counts_more : (counts now : EndCounts) (posts : List PostOutcome) (place : ℕ) (d post : PostOutcome) → place < length posts → post ≡ get_or posts place d → now ≡ both_counts counts post.counts → counts ≡ with_posts no_ends (take place posts)
-    → now ≡ with_posts no_ends (take (place + 1) posts)
-counts_more counts now posts place d post within is more so_far =
-    more
-    ∙ (ap (λ (c : EndCounts). both_counts c post.counts) so_far
-    ∙ (sym (posts_push no_ends (take place posts) post)
-    ∙ ap (with_posts no_ends) (ap (λ (p : PostOutcome). take place posts ++ p ∷ []) is ∙ sym (take_more posts place d within))))
-
-take_past : {A : Type 0} (count : ℕ) (xs : List A) → length xs ≤ count → take count xs ≡ xs
-take_past zero [] past = refl
-take_past zero (x ∷ xs) past = absurd (omega (arith, past))
-take_past (suc count) [] past = refl
-take_past (suc count) (x ∷ xs) past = ap (λ (l : List _). x ∷ l) (take_past count xs (omega (arith, past)))
-
-pub counts_all : (counts : EndCounts) (posts : List PostOutcome) (place : ℕ) → length posts ≤ place → counts ≡ with_posts no_ends (take place posts) → counts ≡ with_posts no_ends posts
-counts_all counts posts place past so_far = so_far ∙ ap (with_posts no_ends) (take_past place posts past)

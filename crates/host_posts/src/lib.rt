@@ -15,4 +15,9 @@ mod taking;
 
 pub use counting::EndCounts;
 pub use hosting::host_on;
-pub use posting::{HostedOn, MOST_LINKS, MOST_POSTS, PostEnd, PostOutcome, PostOutcomes, Posts};
+pub use post::Post;
+pub use posting::{
+    HostedOn, MOST_LINKS, MOST_POSTS, PostEnd, PostOutcome, PostOutcomes, Posts, counts_of_posts,
+};
+pub use running::{EndedPost, PostRound, PostService, gather_posts, run_posts};
+pub use splitting::split_passes;

@@ -60,16 +60,13 @@ pub struct HostedOn {
     pub posts: PostOutcomes,
 }
 
-impl HostedOn {
-    /// How the links of all posts have ended.
-    pub fn counts(&self) -> EndCounts
-        ensures { result ≡ with_posts no_ends self.now.posts }
-    {
-        let posts = self.posts.as_slice();
-        let mut counts = EndCounts::new();
-        for post in posts {
-            counts = counts.with_counts(post.counts);
-        }
-        counts
+/// How the links of all these posts have ended.
+pub fn counts_of_posts(posts: &[PostOutcome]) -> EndCounts
+    ensures { result ≡ with_posts no_ends posts.now }
+{
+    let mut counts = EndCounts::new();
+    for post in posts {
+        counts = counts.with_counts(post.counts);
     }
+    counts
 }

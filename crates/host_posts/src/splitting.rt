@@ -25,7 +25,7 @@ fn split_pass<K: Keeper>(room: &Room<K>, lead: &mut Seat<K>) -> Seat<K>
 }
 
 /// A pass for a post is split off each lead pass. There is room for them.
-fn split_passes<K: Keeper>(
+pub fn split_passes<K: Keeper>(
     rooms: &[Room<K>],
     leads: &mut [Seat<K>],
     mut seats: Vec<Seat<K>>,

@@ -5,7 +5,7 @@ ghost use Rattle.tea_io.specs.MemNet.{HasNoCounts};
 use crate::links::{link_of, silent_link};
 use crate::plans::{plan_of, plans_of};
 use held_gate::HeldGate;
-use host_posts::{EndCounts, HostedOn, PostEnd, PostOutcome, Posts, host_on};
+use host_posts::{EndCounts, HostedOn, PostEnd, PostOutcome, Posts, counts_of_posts, host_on};
 use net_shares::{Answers, ListStop, MemSharedNet, SharePlans};
 use reflect_server::ServeFault;
 use std::alloc::Global;
@@ -73,7 +73,7 @@ fn serves_two_hundred(outcome: &Outcome) -> bool {
         && has_left(hosted.posts.get(1), PostEnd::Failed, 50)
         && has_left(hosted.posts.get(2), PostEnd::Failed, 50)
         && has_left(hosted.posts.get(3), PostEnd::Failed, 50)
-        && hosted.counts().left == 200
+        && counts_of_posts(hosted.posts.as_slice()).left == 200
         && hosted.ids.len() == 2
         && hosted.sessions.len() == 2
         && has_entries(hosted, 0, 200)
@@ -129,7 +129,7 @@ fn two_are_served_at_once<R: Threads + Wait + Sync>(
     let gate = HeldGate::new(held, 1);
     let stop = stop_after(alloc, 1000)?;
     let (net, outcome) = host_at_0(rt, alloc, plans_of(alloc, 2, 2)?, 2, &stop, &gate)?;
-    let all = matches!(&outcome, Ok(hosted) if hosted.counts().left == 4);
+    let all = matches!(&outcome, Ok(hosted) if counts_of_posts(hosted.posts.as_slice()).left == 4);
     Ok(gate.held() && gate.passes() == 4 && all && net.returned().len() == 2)
 }
 

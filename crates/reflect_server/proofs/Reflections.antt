@@ -158,7 +158,7 @@ only_connections gives id links connections opener history talks =
     others n other false is = none_else (opener ∷ callers_of connections) history n talks.whole (ap (λ (b : Bool). b || has n (callers_of connections)) is ∙ other)
 
 -- each connection was sent what the log serves it
-all_served : (gives : ℕ → Type 0) (id : SessionId) (opening : PlainSession) {L : Type 0} (links : LinksTell L) (history : List Item) (connections : List (ServedConnection L)) → IsSoundThrough opening history
+pub all_served : (gives : ℕ → Type 0) (id : SessionId) (opening : PlainSession) {L : Type 0} (links : LinksTell L) (history : List Item) (connections : List (ServedConnection L)) → IsSoundThrough opening history
     → AllByRecursion (HasTalk gives id opening links history) connections → AreServed (play_from opening history).log connections
 all_served gives id opening links history [] sound talks = tt
 all_served gives id opening links history (one ∷ rest) sound talks = (
@@ -167,7 +167,7 @@ all_served gives id opening links history (one ∷ rest) sound talks = (
 )
 
 -- and each TICK among that is at most the horizon in the end
-all_told : (gives : ℕ → Type 0) (id : SessionId) (opening : PlainSession) {L : Type 0} (links : LinksTell L) (history : List Item) (connections : List (ServedConnection L)) → IsSoundThrough opening history
+pub all_told : (gives : ℕ → Type 0) (id : SessionId) (opening : PlainSession) {L : Type 0} (links : LinksTell L) (history : List Item) (connections : List (ServedConnection L)) → IsSoundThrough opening history
     → AllByRecursion (HasTalk gives id opening links history) connections → AreToldWithin (play_from opening history).horizon connections
 all_told gives id opening links history [] sound talks = tt
 all_told gives id opening links history (one ∷ rest) sound talks = (

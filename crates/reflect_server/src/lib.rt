@@ -12,5 +12,6 @@ mod reflecting;
 mod reflection;
 
 pub use laws::those_here;
-pub use reflecting::{reflect, reflect_kept};
+pub use opening::{LaterClock, Unopened, close_opened, open_session};
+pub use reflecting::{reflect, reflect_kept, unheard, unopened_fault};
 pub use reflection::{Ends, KeptFault, Opening, Reflected, ServeFault, Server};

@@ -179,7 +179,7 @@ fn serve_all<
 }
 
 /// Why nothing was reflected of a session that was opened, by why the net did not listen.
-fn unheard(fault: NetFault) -> KeptFault
+pub fn unheard(fault: NetFault) -> KeptFault
     ensures { result ≡ unheard fault }
 {
     match fault {
@@ -189,7 +189,7 @@ fn unheard(fault: NetFault) -> KeptFault
 }
 
 /// Why nothing was reflected of a session that was not opened.
-fn unopened_fault(fault: CallFault) -> KeptFault
+pub fn unopened_fault(fault: CallFault) -> KeptFault
     ensures { result ≡ unopened_fault fault }
 {
     match fault {

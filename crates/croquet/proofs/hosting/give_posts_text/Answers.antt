@@ -1,7 +1,7 @@
 use Rattle.std.proofs.Common.{false}
 use Rattle.command_outcome.specs.Outcome.{steps_of}
 use Rattle.command_host.specs.HostedSteps.{posts_text}
-use Rattle.command_host.specs.PostsEnded.{posts_fault}
+use Rattle.command_posts.specs.PostsEnded.{posts_fault}
 use Rattle.croquet.proofs.ReflectorRuns.{ran_cut, ran_told}
 use Rattle.croquet.proofs.Runs.{ran_wanting}
 use Rattle.croquet.proofs.hosting.give_posts_text.Goals as goal

@@ -38,8 +38,8 @@ returns-in-Lives-clause-ran g c =
 pub returns-in-Reflects-clause-ran : goal.returns-in-Reflects-clause-ran
 returns-in-Reflects-clause-ran g c =
     inl (
-      inr (inl (ran_reflecting _ _ _ _ _ (Comes (command_of c.args.words.now)) (plain_reflection c.in-Reflects.reflection) c.reflect-net.result.1 c.args.files.now c.begin.new.files c.tell_reflected-status.new.files c.args.out.now c.begin.new.out c.tell_reflected-status.new.out
-          c.args.net c.reflect-net.result.0 c.tell_reflected-status.result c.in-Reflects.ensures.turns c.reflect-net.ensures c.tell_reflected-status.ensures)),
+      inr (inl (ran_reflecting _ _ _ _ _ _ _ (Comes (command_of c.args.words.now)) (plain_reflection c.in-Reflects.reflection) c.args.files.now c.begin.new.files c.serve_unkept.new.files c.args.out.now c.begin.new.out c.serve_unkept.new.out
+          c.args.net c.serve_unkept.result.0 c.serve_unkept.result.1 c.in-Reflects.ensures.turns c.serve_unkept.ensures)),
       refl,
       refl,
     )
@@ -109,7 +109,7 @@ returns-clause-ran g c =
 pub returns-in-Ok-clause-ran : goal.returns-in-Ok-clause-ran
 returns-in-Ok-clause-ran g c =
     inr (inl (
-      ran_kept _ _ _ _ c.args.net _ _ (Comes (command_of c.args.words.now)) (plain_keeping c.in-Keeps.keeping) (plain_keeping c.in-Ok.keeping) c.in-Ok.opening c.args.files.now c.begin.new.files c.prepare.new.files c.serve_kept.new.files
+      ran_kept _ _ _ _ c.args.net _ _ _ _ (Comes (command_of c.args.words.now)) (plain_keeping c.in-Keeps.keeping) (plain_keeping c.in-Ok.keeping) c.in-Ok.opening c.args.files.now c.begin.new.files c.prepare.new.files c.serve_kept.new.files
           c.args.out.now c.begin.new.out c.prepare.new.out c.serve_kept.new.out c.serve_kept.result.0 c.args.stores.now c.prepare.new.stores c.serve_kept.new.stores c.serve_kept.result.1
           c.in-Keeps.ensures.turns c.in-Ok.ensures.prepares c.serve_kept.ensures,
       refl,
@@ -118,7 +118,7 @@ returns-in-Ok-clause-ran g c =
 pub returns-in-Keeps-clause-ran : goal.returns-in-Keeps-clause-ran
 returns-in-Keeps-clause-ran g c =
     inr (inl (
-      ran_unkept _ _ _ _ c.args.net _ _ (Comes (command_of c.args.words.now)) (plain_keeping c.in-Keeps.keeping) c.args.files.now c.begin.new.files c.prepare.new.files c.args.out.now c.begin.new.out c.prepare.new.out
+      ran_unkept _ _ _ _ c.args.net _ _ _ _ (Comes (command_of c.args.words.now)) (plain_keeping c.in-Keeps.keeping) c.args.files.now c.begin.new.files c.prepare.new.files c.args.out.now c.begin.new.out c.prepare.new.out
           c.args.stores.now c.prepare.new.stores c.in-Err.status c.in-Keeps.ensures.turns c.in-Err.ensures.prepares,
       refl,
     ))
@@ -136,7 +136,7 @@ returns-in-Lives-clause-complete g c =
 
 pub returns-in-Reflects-clause-complete : goal.returns-in-Reflects-clause-complete
 returns-in-Reflects-clause-complete g c =
-    is_complete _ _ _ _ _ _ _ c.one_verdict.ensures c.ends_are_caused.ensures.peer c.ends_are_caused.ensures.ended c.ends_are_caused.ensures.refused _ _ (command_of c.args.words.now) _ _ _ _ _ _ c.tell_reflected-status.result (returns-in-Reflects-clause-ran g c)
+    is_complete _ _ _ _ _ _ _ c.one_verdict.ensures c.ends_are_caused.ensures.peer c.ends_are_caused.ensures.ended c.ends_are_caused.ensures.refused _ _ (command_of c.args.words.now) _ _ _ _ _ _ c.serve_unkept.result.1 (returns-in-Reflects-clause-ran g c)
 
 pub returns-in-Connections-clause-complete : goal.returns-in-Connections-clause-complete
 returns-in-Connections-clause-complete g c =

@@ -1,0 +1,2 @@
+pub mod PostsEnded
+pub mod PostsText

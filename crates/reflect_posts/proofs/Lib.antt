@@ -1,0 +1,4 @@
+pub mod Finals
+pub mod Ones
+pub mod RowLaws
+pub mod Unused

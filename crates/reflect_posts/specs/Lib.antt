@@ -1,0 +1,2 @@
+pub mod Reflects
+pub mod Prepares
